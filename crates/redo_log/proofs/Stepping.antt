@@ -192,15 +192,15 @@ sizes log left lines live is = (
 
 -- the cause of `Memory` or `Worn`
 pub room_cause : (log left : Text) (lines : List (Line Text)) (live : LiveState)
-    (fault : RestoreFault) → IsDoneUpTo log lines live left → IsOfRoom fault
+    (fault : RestoreFault) → IsDoneUpTo log lines live left → Contains left 10 → IsOfRoom fault
     → (fault ≡ Worn → IsWorn live) → IsRestoreCause log fault
-room_cause log left lines live Memory is room worn = tt
-room_cause log left lines live Worn is room worn =
+room_cause log left lines live Memory is has room worn = tt
+room_cause log left lines live Worn is has room worn =
     let long = worn refl in
     let calls = is.left_by.calls in
     let names = ap length is.left_by.names in
-    (lines, left, is.logged, is.parts, omega arith)
-room_cause log left lines live (Differs number count size) is room worn = absurd room
+    (lines, left, is.logged, is.parts, has, omega arith)
+room_cause log left lines live (Differs number count size) is has room worn = absurd room
 
 -- what is restored
 pub restored_to : (log left : Text) (lines : List (Line Text)) (live : LiveState) (count : ℕ)

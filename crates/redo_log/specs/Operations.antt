@@ -1,5 +1,6 @@
 -- What was done to the log and the output of a conversation, and what they hold by it.
 use Rattle.std.specs.Prelude.{◌≡◌, ℕ, Bool, true, false, List, [], ◌∷◌, ◌++◌, take}
+use Rattle.std.specs.List.{AllByRecursion}
 use Rattle.redo_model.specs.Names.{Text}
 
 -- an operation on the log or on the output, as far as it was done
@@ -18,11 +19,11 @@ pub data Operation : Type 0 where
   Copy : Operation
   -- these bytes were written to the output
   Write : Text → Operation
-  -- an operation of the log, or of the output, failed and changed nothing
+  -- an operation of the log, or of the output, failed and changed neither
   LogFailed : Operation
   OutputFailed : Operation
 
--- the bytes of the log that are known to be on the disk, and all that it holds; the newest operation comes first
+-- the bytes of the log that are known to be on the disk, and all that it holds, or that were read of it
 pub record Held : Type 0 where
   pub synced : Text
   pub all : Text
@@ -68,6 +69,27 @@ abbrev pub IsAlways : (List Operation → Type 0) → List Operation → Type 0
 IsAlways P [] = Unit {0}
 IsAlways P (operation ∷ earlier) =
     ((part : Operation) → IsPartOf part operation → P (part ∷ earlier)) × IsAlways P earlier
+
+-- a copy of the log
+abbrev pub is_copy : Operation → Bool
+is_copy Copy = true
+is_copy operation = false
+
+-- an operation that failed
+abbrev pub is_failure : Operation → Bool
+is_failure LogFailed = true
+is_failure Revert = true
+is_failure OutputFailed = true
+is_failure operation = false
+
+-- no operation failed
+abbrev pub HasNoFailure : List Operation → Type 0
+HasNoFailure done = AllByRecursion (λ operation. is_failure operation ≡ false) done
+
+-- nothing was done after an operation that failed
+abbrev pub StopsAtFailure : List Operation → Type 0
+StopsAtFailure [] = Unit {0}
+StopsAtFailure (newest ∷ earlier) = HasNoFailure earlier
 
 -- an operation of the log that changed nothing
 abbrev pub changes_nothing : Operation → Bool

@@ -56,12 +56,12 @@ DiffersAt bytes number count size =
     ⊎ ((lines : List (Line Text)) × DiffersBehind bytes lines × (number ≡ length lines + 2)
     × (count ≡ length lines) × (size ≡ length (log_header ++ lines_text_of lines)))
 
--- there are more lines than the database answers: one more, and two for each of 65 names more than
+-- there are more lines than the database answers: after some of them one more, and two for each of 65 names more than
 -- are known, can't be counted
 abbrev pub HasTooMany : Text → Type 0
 HasTooMany bytes =
     (lines : List (Line Text)) × (rest : Text) × AreLogged lines
-    × (bytes ≡ log_header ++ lines_text_of lines ++ rest)
+    × (bytes ≡ log_header ++ lines_text_of lines ++ rest) × Contains rest 10
     × (2 ^ 32 ≤ length lines + 1 + 2 * (length (names_after lines) + 65))
 
 -- the cause of a fault; `Memory` says nothing of the log

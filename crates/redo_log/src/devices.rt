@@ -1,6 +1,6 @@
-ghost use Rattle.std.specs.Prelude.{◌≡◌, ◌⊎◌, ◌∷◌, List, IfOk, IfErr, OnOk, OnErr};
+ghost use Rattle.std.specs.Prelude.{◌≡◌, ◌⊎◌, ◌≤◌, ◌∷◌, List, length, IfOk, IfErr, OnOk, OnErr};
 ghost use Rattle.redo_model.specs.Names.{Text};
-ghost use Rattle.redo_log.specs.Operations.{Operation, Read, Append, Cut, Sync, Revert, Copy, Write, LogFailed, OutputFailed, IsPrefix};
+ghost use Rattle.redo_log.specs.Operations.{Operation, Read, Append, Cut, Sync, Revert, Copy, Write, LogFailed, OutputFailed, IsPrefix, held_after};
 ghost use Rattle.redo_log.specs.declared.devices.Unread.TheVariants.{Memory};
 
 use redo_whole::WriteFault;
@@ -57,8 +57,9 @@ pub trait Devices {
         ensures part { OnErr result ((part : Text) × IsPrefix part bytes.now
             × (history self.new ≡ LogFailed ∷ Append part ∷ history self.old)) };
 
-    /// Cuts the log to a length.
+    /// Cuts the log to a length: not to more than it holds, since it could be made longer then.
     fn cut(&mut self, size: usize) -> Result<(), LogFault>
+        requires { size ≤ length (held_after (history self.old)).all }
         ensures cut { OnOk result (history self.new ≡ Cut size ∷ history self.old) }
         ensures err { OnErr result (history self.new ≡ LogFailed ∷ history self.old) };
 

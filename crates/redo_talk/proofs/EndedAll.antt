@@ -25,14 +25,13 @@ use Rattle.redo_live.specs.Inside.Told.{EndsSession}
 use Rattle.redo_live.specs.Lines.{lines_text_of}
 use Rattle.redo_live.proofs.EndingAll.{held_out, built_out}
 use Rattle.redo_log.specs.Logs.{AreLogged}
-use Rattle.redo_talk.specs.Rounds.{Round, end_word, end_text_of, lines_in}
+use Rattle.redo_talk.specs.Rounds.{Round, AreEnds, AreRounds, end_word, end_text_of, lines_in}
 use Rattle.redo_talk.specs.Talks.{HoldsNothing}
 use Rattle.redo_talk.specs.Inside.LeftBy.{IsLeftBy}
 use Rattle.redo_talk.specs.Inside.Opening.{EndsAll}
 use Rattle.redo_talk.specs.Inside.Places.{known_of}
-use Rattle.redo_talk.specs.Inside.Steps.{LeadsTo, Ending, AreSteps}
-use Rattle.redo_talk.proofs.RoundByRound.{steps_more}
-use Rattle.redo_talk.proofs.Led.{steps_are_rounds, steps_lead}
+use Rattle.redo_talk.specs.Inside.Steps.{Known, LeadsTo, Ending, AreSteps}
+use Rattle.redo_talk.proofs.Led.{ending_leads, ending_round, steps_lead}
 use Rattle.redo_talk.proofs.Steps.{held_are_known}
 
 -- no line is of a session that a log can't have
@@ -66,12 +65,47 @@ session_below live before s logged left (t, holds) =
 abbrev pub end_line : ℕ → Text
 end_line s = decimal (s + 1) ++ codes " " ++ end_word
 
+-- one end for each round, from the old to the new
+abbrev pub AreEndings : Known → Known → List Round → Type 0
+AreEndings old new [] = new ≡ old
+AreEndings old new (round ∷ rounds) =
+    (middle : Known) × Ending old middle round × AreEndings middle new rounds
+
+endings_are_steps : (old new : Known) (rounds : List Round) → AreEndings old new rounds
+    → AreSteps old new rounds
+endings_are_steps old new [] same = same
+endings_are_steps old new (round ∷ rounds) (middle, ending, more) =
+    (middle, inr (inl ending), endings_are_steps middle new rounds more)
+
+endings_more : (old middle new : Known) (rounds : List Round) (round : Round)
+    → AreEndings old middle rounds → Ending middle new round
+    → AreEndings old new (rounds ++ round ∷ [])
+endings_more old middle new [] round same ending =
+    (new, subst (λ k. Ending k new round) same ending, refl)
+endings_more old middle new (first ∷ rounds) round (next, one, more) ending =
+    (next, one, endings_more next middle new rounds round more ending)
+
+endings_are_ends : (before : List (Line Text)) (old new : Known) (rounds : List Round)
+    → LeadsTo before old → AreEndings old new rounds → AreEnds before rounds
+endings_are_ends before old new [] led same = tt
+endings_are_ends before old new (round ∷ rounds) led (middle, ending, more) = (
+  ending_round before old middle round led ending,
+  endings_are_ends (before ++ round.lines) middle new rounds
+      (ending_leads before old middle round led ending) more,
+)
+
+pub ends_are_rounds : (before : List (Line Text)) (rounds : List Round) → AreEnds before rounds
+    → AreRounds before rounds
+ends_are_rounds before [] ends = tt
+ends_are_rounds before (round ∷ rounds) ends =
+    (inr (inl ends.0), ends_are_rounds (before ++ round.lines) rounds ends.1)
+
 -- these sessions ended, in this order
 pub record AreEndedSoFar (old new : LiveState) (sessions : List ℕ) (logged logged_after : Text)
     : Type 0 where
   pub rounds : List Round
   pub asked : map (λ round. round.heard) rounds ≡ map end_line sessions
-  pub steps : AreSteps (known_of old) (known_of new) rounds
+  pub endings : AreEndings (known_of old) (known_of new) rounds
   pub left : state_in new ≡ without_each sessions (state_in old)
   pub logs : logged_after ≡ logged ++ lines_text_of (lines_in rounds)
 
@@ -79,7 +113,7 @@ pub none_ended : (live : LiveState) (logged : Text) → AreEndedSoFar live live 
 none_ended live logged = record {
   rounds = [];
   asked = refl;
-  steps = refl;
+  endings = refl;
   left = refl;
   logs = sym (append-nil logged);
 }
@@ -112,7 +146,7 @@ module _ (before : List (Line Text)) (old new : LiveState) (left : IsLeftBy old 
   where
     led : LeadsTo (before ++ lines_in so_far.rounds) (known_of new)
     led = steps_lead before (known_of old) (known_of new) so_far.rounds (leads_to old before left)
-        so_far.steps
+        (endings_are_steps (known_of old) (known_of new) so_far.rounds so_far.endings)
 
     builders : BuildersHold (state_in new)
     builders = subst BuildersHold (sym led.state_is)
@@ -157,8 +191,8 @@ module _ (before : List (Line Text)) (old new : LiveState) (left : IsLeftBy old 
           asked = map-append (λ (r : Round). r.heard) so_far.rounds (round ∷ [])
               ∙ ap (λ ts. ts ++ end_line s ∷ []) so_far.asked
               ∙ sym (map-append end_line sessions (s ∷ []));
-          steps = steps_more (known_of old) (known_of new) (known_of next) so_far.rounds round
-              so_far.steps (inr (inl (ending below)));
+          endings = endings_more (known_of old) (known_of new) (known_of next) so_far.rounds round
+              so_far.endings (ending below);
           left = without ∙ ap (state_without s) so_far.left
               ∙ sym (without_more sessions s (state_in old));
           logs = ends.logs ∙ ap (λ (t : Text). t ++ lines_text_of ends.lines) so_far.logs
@@ -190,10 +224,12 @@ module _ (before : List (Line Text)) (old new : LiveState) (left : IsLeftBy old 
       lines_are = refl;
       ended = record {
         sessions = sessions;
+        holders = λ s. subst (λ (st : State Text). Contains sessions s
+            ↔ ((t : Text) × (st.locks.holder t ≡ Some s))) left.state_is (holders s);
         ascending = ascending;
         asked = so_far.asked;
-        rounds = steps_are_rounds before (known_of old) (known_of new) so_far.rounds
-            (leads_to old before left) so_far.steps;
+        ends = endings_are_ends before (known_of old) (known_of new) so_far.rounds
+            (leads_to old before left) so_far.endings;
         nothing = nothing_held (λ t s is. (holders s).1 (t, is)) builds;
       };
       left = record {

@@ -22,6 +22,7 @@ use Rattle.redo_talk.specs.Rounds.{Round, lines_in}
 use Rattle.redo_talk.specs.Talks.{Former, AreRestored, IsBegun, IsConversation, IsLoggedFirst, IsTalk, history_of, log_of}
 use Rattle.redo_talk.specs.Inside.Laws.{AreFew, RestoresFormer, RestoresAnswered, lines_after, logged_after}
 use Rattle.redo_talk.specs.declared.keeping.Keeping.{Keeping}
+use Rattle.redo_talk.proofs.EndedAll.{ends_are_rounds}
 use Rattle.redo_talk.proofs.LawfulLines.{own_names, rounds_said, rounds_names}
 use Rattle.redo_talk.proofs.LawfulLogs.{changing_first, changing_leaves, changing_logged, cut_behind, cut_has, log_text, no_torn_header, whole_log}
 
@@ -55,9 +56,11 @@ module _ (keeping : Keeping) (version : Text) (former : Former) (rounds : List R
         record {
           legal = talk.legal;
           said = rounds_said history rounds talk.are_rounds
-              (rounds_said former.lines former.ends talk.ended.rounds first_logged.said);
+              (rounds_said former.lines former.ends
+              (ends_are_rounds former.lines former.ends talk.ended.ends) first_logged.said);
           few_names = rounds_names history rounds talk.are_rounds
-              (rounds_names former.lines former.ends talk.ended.rounds first_logged.few_names);
+              (rounds_names former.lines former.ends
+              (ends_are_rounds former.lines former.ends talk.ended.ends) first_logged.few_names);
         }
 
     pub logged : AreLogged (logged_after former rounds)

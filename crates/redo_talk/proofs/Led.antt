@@ -189,7 +189,7 @@ module _ (before : List (Line Text)) (old new : Known) (round : Round) (led : Le
         closes_by_state texts_are_names nat_list_cmp_total step.session before step.held led.legal
         (subst (λ st. AreHeld texts step.session st step.held) led.state_is step.are_held)
 
-    ending_round : Ending old new round → IsEnded before round
+    pub ending_round : Ending old new round → IsEnded before round
     ending_round step = record {
       session = step.session;
       asks = step.asks;
@@ -208,7 +208,7 @@ module _ (before : List (Line Text)) (old new : Known) (round : Round) (led : Le
         (subst (λ ls. AreKnown old.names (flat_map line_names ls)) (sym step.lines_are)
         (closing_known old.names step.session old.state step.held step.known))
 
-    ending_leads : Ending old new round → LeadsTo (before ++ round.lines) new
+    pub ending_leads : Ending old new round → LeadsTo (before ++ round.lines) new
     ending_leads step = record {
       legal = subst (λ ls. Legal texts (before ++ ls)) (sym (closing_is step))
           (closing_laws step).1;

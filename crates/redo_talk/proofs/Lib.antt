@@ -23,6 +23,7 @@ pub mod LawfulSessions
 pub mod LawfulRounds
 pub mod LawfulTurns
 pub mod OpeningKept
+pub mod OpeningDone
 pub mod OpeningEnds
 pub mod OpeningMoments
 pub mod EndedAll

@@ -1,15 +1,16 @@
 -- What is true at each moment stays true as more is done, and as more rounds are answered.
-use Rattle.std.proofs.Common.{◌≡◌, Bool, true, false, cond, List, [], ◌∷◌, ◌++◌, refl, sym, ap, ◌∙◌, subst, append-nil, append_assoc, inl, inr}
+use Rattle.std.proofs.Common.{◌≡◌, ◌⊎◌, Bool, true, false, cond, List, [], ◌∷◌, ◌++◌, refl, sym, ap, ◌∙◌, subst, append-nil, append_assoc, inl, inr}
 use Rattle.std.proofs.lemmas.List.Concat.{flat_map-append}
 use Rattle.redo_model.specs.Names.{Text, texts}
 use Rattle.redo_model.specs.State.{empty}
 use Rattle.redo_model.specs.History.{left_by}
 use Rattle.redo_live.specs.Lines.{lines_text_of}
 use Rattle.redo_log.specs.Logs.{log_header}
-use Rattle.redo_log.specs.Operations.{Operation, Append, Sync, Write, LogFailed, OutputFailed, IsPrefix, IsAlways, held_after, written_by}
+use Rattle.redo_log.specs.Operations.{Operation, Append, Sync, Write, LogFailed, OutputFailed, HasNoFailure, IsPrefix, IsAlways, held_after, is_copy, written_by}
+use Rattle.redo_log.specs.Restores.{IsDamagedAfter}
 use Rattle.redo_talk.specs.Logs.{HasNoEnd, logged_of}
 use Rattle.redo_talk.specs.Rounds.{Round, lines_in, said_in}
-use Rattle.redo_talk.specs.Talks.{Former, AreLines, BeginsBy, history_of, log_of, output_of, greeting_of}
+use Rattle.redo_talk.specs.Talks.{Former, AreLines, BeginsBy, HasNoCopy, IsSalvaged, history_of, log_of, output_of, greeting_of}
 use Rattle.redo_talk.specs.Inside.Moments.{Start, IsSafe}
 use Rattle.redo_talk.specs.Inside.Sending.{after_logging}
 use Rattle.redo_talk.proofs.RoundByRound.{logged-append}
@@ -40,15 +41,43 @@ prefix_of_either true prefix x y p q = p
 prefix_of_either false prefix x y p q = q
 
 -- more was done
-pub begins_more : (bytes : Text) (former : Former) (operation : Operation) (done : List Operation)
-    → BeginsBy bytes former done → BeginsBy bytes former (operation ∷ done)
-begins_more bytes former operation done begins = record {
-  later = operation ∷ begins.later;
-  first = ap (λ ops. operation ∷ ops) begins.first;
-  copied = λ damaged.
-      let (rest, e) = begins.copied damaged in
-      (operation ∷ rest, ap (λ ops. operation ∷ ops) e);
-}
+module _ (bytes : Text) (former : Former) (operation : Operation) (done : List Operation)
+    (no_copy : is_copy operation ≡ false) (begins : BeginsBy bytes former done)
+  where
+    salvaged_more : (later : List Operation)
+        → (IsDamagedAfter bytes former.lines × IsSalvaged later)
+        ⊎ (¬ (IsDamagedAfter bytes former.lines) × HasNoCopy later)
+        → (IsDamagedAfter bytes former.lines × IsSalvaged (operation ∷ later))
+        ⊎ (¬ (IsDamagedAfter bytes former.lines) × HasNoCopy (operation ∷ later))
+    salvaged_more later (inl (damaged, is)) =
+        inl (
+          damaged,
+          record {
+            size = is.size;
+            synced = is.synced;
+            rest = operation ∷ is.rest;
+            are = ap (λ ops. operation ∷ ops) is.are;
+            sync = is.sync;
+            once = (no_copy, is.once);
+          },
+        )
+    salvaged_more later (inr (whole, none)) = inr (whole, (no_copy, none))
+
+    pub begins_more : BeginsBy bytes former (operation ∷ done)
+    begins_more = record {
+      later = operation ∷ begins.later;
+      first = ap (λ ops. operation ∷ ops) begins.first;
+      salvaged = salvaged_more begins.later begins.salvaged;
+    }
+
+pub begins_after_logging : (bytes : Text) (former : Former) (sync : Bool) (logged : Text)
+    (done : List Operation) → BeginsBy bytes former done
+    → BeginsBy bytes former (after_logging sync logged done)
+begins_after_logging bytes former true logged done begins =
+    begins_more bytes former Sync (Append logged ∷ done) refl
+    (begins_more bytes former (Append logged) done refl begins)
+begins_after_logging bytes former false logged done begins =
+    begins_more bytes former (Append logged) done refl begins
 
 -- one more line was read
 pub lines_more : (rounds : List Round) (round : Round) → AreLines rounds → HasNoEnd round.heard
@@ -163,6 +192,11 @@ module _ (logged : Text) (done : List Operation) where
       (held_after (after_logging sync logged done)).all ≡ (held_after done).all ++ logged
   kept_after_logging true = refl
   kept_after_logging false = refl
+
+  pub fine_after_logging : HasNoFailure done → (sync : Bool)
+      → HasNoFailure (after_logging sync logged done)
+  fine_after_logging fine true = (refl, (refl, fine))
+  fine_after_logging fine false = (refl, fine)
 
   pub written_after_logging : (sync : Bool)
       → written_by (after_logging sync logged done) ≡ written_by done

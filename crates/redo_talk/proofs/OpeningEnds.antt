@@ -77,6 +77,7 @@ module _ (salvage : Bool) (version bytes : Text) (kept : Kept)
       restored = subst (AreRestored salvage bytes) (sym all.lines_are) is.restored;
       ended = all.ended;
       left = all.left;
+      within = rw size is.within;
       lines = rw (size, all.lines_are)
           (lines_kept bytes kept.restored.bytes is.lines is.are_kept);
       rest = rw (size, rest, all.lines_are) is.rest;

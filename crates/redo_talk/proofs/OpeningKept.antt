@@ -2,6 +2,7 @@
 use Rattle.std.proofs.Common.{◌≡◌, ◌⊎◌, ℕ, ◌+◌, ◌≤◌, Bool, false, List, [], ◌++◌, length, take, drop, refl, sym, ap, ◌∙◌, subst, append-nil, append_assoc, length-append, inl, inr, arith}
 use Rattle.std.specs.Prelude.{Contains, IsTrue}
 use Rattle.std.proofs.lemmas.List.{append_cancel_left, take-append-drop, take_all}
+use Rattle.std.proofs.lemmas.List.Elements.{Contains-append_left}
 use Rattle.std.proofs.Math.Seq.{take-append_seam}
 use Rattle.redo_model.specs.Names.{Text}
 use Rattle.redo_model.specs.History.{Line}
@@ -84,6 +85,12 @@ rest_of rest bytes size lines whole (inr is) =
     subst (λ r. IsRest r bytes (take size bytes) lines) (sym is.0)
     (take_all size bytes is.1, whole)
 
+-- the header and the lines are not longer than the log
+log_within : (bytes left : Text) (lines : List (Line Text)) (size : ℕ)
+    → bytes ≡ log_text lines ++ left → size ≡ length (log_text lines) → size ≤ length bytes
+log_within bytes left lines size parts e =
+    omega (arith, ap length parts, length-append (log_text lines) left, e)
+
 -- all lines of the log are kept
 pub all_kept : (salvage : Bool) (bytes : Text) (restored : Restored) (rest : Rest)
     → IsRestored bytes restored → IsTornOrNothing rest (length bytes) restored.bytes
@@ -93,6 +100,8 @@ all_kept salvage bytes restored rest (inl (lines, torn, is, to)) follows = recor
   logged = is.logged;
   restored = inl (torn, is);
   left = left_of restored.live lines is.logged to.left;
+  within = log_within bytes torn lines restored.bytes
+      (is.parts ∙ sym (append_assoc log_header (lines_text_of lines) torn)) to.bytes_are;
   count = to.lines_are;
   are_kept = inl (ap (λ n. take n bytes) to.bytes_are ∙ first_bytes bytes torn lines is.parts);
   rest = rest_of rest bytes restored.bytes lines (log_is_whole bytes torn lines is) follows;
@@ -102,6 +111,7 @@ all_kept salvage bytes restored rest (inr (torn, left, none, size)) follows = re
   logged = no_lines;
   restored = inr (inl (torn, refl));
   left = left_of restored.live [] no_lines left;
+  within = omega (arith, size);
   count = none;
   are_kept = inr (size, refl);
   rest = rest_of rest bytes restored.bytes [] (torn_is_whole bytes torn) follows;
@@ -130,9 +140,10 @@ first_kept salvage bytes cut number count size restored may (inl (bad, one, none
       logged = no_lines;
       restored = inr (inr (may, inl (bad, refl)));
       left = left_of restored.live [] no_lines left;
+      within = omega (arith, bytes_none);
       count = lines;
       are_kept = inr (bytes_none, refl);
-      rest = tt;
+      rest = inl (bad, refl);
     }
 first_kept salvage bytes cut number count size restored may
     (inr (lines, differs, at_line, lines_are, bytes_are)) cut_is is same =
@@ -149,15 +160,18 @@ first_kept salvage bytes cut number count size restored may
       logged = differs.logged;
       restored = inr (inr (may, inr differs));
       left = left_of restored.live lines differs.logged to.left;
+      within = log_within bytes differs.left lines restored.bytes
+          (differs.parts ∙ sym (append_assoc log_header (lines_text_of lines) differs.left))
+          to.bytes_are;
       count = to.lines_are;
       are_kept = inl (ap (λ n. take n bytes) to.bytes_are ∙ first);
-      rest = tt;
+      rest = inr differs;
     }
 
 -- the first bytes of a log have no more lines than it
 many_more : (bytes cut : Text) (size : ℕ) → cut ≡ take size bytes → HasTooMany cut
     → HasTooMany bytes
-many_more bytes cut size cut_is (lines, rest, logged, parts, many) = (
+many_more bytes cut size cut_is (lines, rest, logged, parts, has, many) = (
   lines,
   rest ++ drop size bytes,
   logged,
@@ -166,6 +180,7 @@ many_more bytes cut size cut_is (lines, rest, logged, parts, many) = (
       ∙ append_assoc log_header (lines_text_of lines ++ rest) (drop size bytes)
       ∙ ap (λ (t : Text). log_header ++ t)
       (append_assoc (lines_text_of lines) rest (drop size bytes)),
+  Contains-append_left rest (drop size bytes) 10 has,
   many,
 )
 

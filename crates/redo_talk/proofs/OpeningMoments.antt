@@ -6,18 +6,17 @@ use Rattle.redo_model.specs.Names.{Text}
 use Rattle.redo_live.specs.Lines.{lines_text_of}
 use Rattle.redo_log.specs.Logs.{log_header}
 use Rattle.redo_log.specs.Restores.{IsDamagedAfter}
-use Rattle.redo_log.specs.Operations.{Operation, Read, Append, Cut, Sync, Revert, Copy, Write, LogFailed, OutputFailed, held_after, written_by, IsPrefix, IsPartOf, IsAlways}
-use Rattle.redo_talk.specs.Causes.{IsUnchanged}
+use Rattle.redo_log.specs.Operations.{Operation, Read, Append, Cut, Sync, Revert, Copy, Write, LogFailed, OutputFailed, HasNoFailure, StopsAtFailure, held_after, written_by, IsPrefix, IsPartOf, IsAlways}
 use Rattle.redo_talk.specs.Talks.{BeginsBy, greeting_of, log_of}
 use Rattle.redo_talk.specs.Inside.Moments.{Start, IsSafe, IsUnderWay}
-use Rattle.redo_talk.specs.Inside.Opening.{IsRest, IsOpenedFrom, BeginsAt, BeginsInPart, IsCutInPart, after_cut, start_of}
+use Rattle.redo_talk.specs.Inside.Opening.{IsRest, IsOpenedFrom, after_cut, start_of}
 use Rattle.redo_talk.specs.Inside.Places.{known_of}
 use Rattle.redo_talk.specs.Inside.Sending.{after_logging}
 use Rattle.redo_talk.specs.Inside.Talking.{nothing}
 use Rattle.redo_talk.specs.declared.opening.Opened.{Opened}
 use Rattle.redo_talk.specs.declared.opening.Rest.{Rest}
 use Rattle.redo_talk.specs.declared.opening.Rest.TheVariants.{Nothing, Torn, Damaged}
-use Rattle.redo_talk.proofs.Moments.{begins_more, prefix_self, prefix_trans, append_always, write_always}
+use Rattle.redo_talk.proofs.Moments.{begins_after_logging, begins_more, prefix_self, prefix_trans, append_always, write_always}
 
 -- an operation that is done whole or not at all
 abbrev is_whole : Operation → Bool
@@ -77,7 +76,7 @@ module _ (sync salvage : Bool) (version bytes : Text) (opened : Opened)
     -- the greeting was not begun, and the log holds this
     record HoldsBefore (held : Text) (done : List Operation) : Type 0 where
       always : IsAlways (IsSafe start []) done
-      begins : BeginsBy bytes is.former done
+      fine : HasNoFailure done
       written : written_by done ≡ []
       held_is : (held_after done).all ≡ held
 
@@ -103,24 +102,17 @@ module _ (sync salvage : Bool) (version bytes : Text) (opened : Opened)
         always_whole (IsSafe start []) [] tt (Read bytes) refl
         (begun read bytes refl refl lines_of_read (inl refl))
 
-    undamaged : (IsDamagedAfter bytes is.former.lines → ⊥) → BeginsBy bytes is.former read
-    undamaged not = record { later = []; first = refl; copied = λ damaged. absurd (not damaged) }
-
-    copied : BeginsBy bytes is.former (Copy ∷ read)
-    copied = record { later = Copy ∷ []; first = refl; copied = λ damaged. ([], refl) }
-
-    cut_begins : (Copy-or-none : List Operation) → IsAlways (IsSafe start []) Copy-or-none
-        → BeginsBy bytes is.former Copy-or-none → written_by Copy-or-none ≡ []
-        → (held_after Copy-or-none).all ≡ bytes
-        → HoldsBefore kept (Cut opened.bytes ∷ Copy-or-none)
-    cut_begins done always begins written held =
+    cut_begins : (done : List Operation) → IsAlways (IsSafe start []) done
+        → HasNoFailure done → written_by done ≡ [] → (held_after done).all ≡ bytes
+        → HoldsBefore kept (Cut opened.bytes ∷ done)
+    cut_begins done always fine written held =
         let held_is : take opened.bytes (held_after done).all ≡ kept =
         ap (take opened.bytes) held in
         record {
           always = always_whole (IsSafe start []) done always (Cut opened.bytes) refl
               (begun (Cut opened.bytes ∷ done) kept written held_is is.lines
               (inr (opened.logged.items, sym is.log)));
-          begins = begins_more bytes is.former (Cut opened.bytes) done begins;
+          fine = (refl, fine);
           written = written;
           held_is = held_is;
         }
@@ -134,13 +126,35 @@ module _ (sync salvage : Bool) (version bytes : Text) (opened : Opened)
         cut_begins (Copy ∷ read)
         (always_whole (IsSafe start []) read read_is_safe Copy refl
         (begun (Copy ∷ read) bytes refl refl lines_of_read (inl refl)))
-        copied refl refl
+        (refl, (refl, tt)) refl refl
 
-    -- and the sync after it failed
-    settle_failed : BeginsBy bytes is.former (LogFailed ∷ cut_copied)
+    -- the log is damaged, and the first that was done after the cut is that
+    salvages : (synced : Operation) → IsDamagedAfter bytes is.former.lines
+        → (synced ≡ Sync) ⊎ (synced ≡ LogFailed) → BeginsBy bytes is.former (synced ∷ cut_copied)
+    salvages synced damaged sync = record {
+      later = synced ∷ Cut opened.bytes ∷ Copy ∷ [];
+      first = refl;
+      salvaged = inl (
+        damaged,
+        record {
+          size = opened.bytes;
+          synced = synced;
+          rest = [];
+          are = refl;
+          sync = sync;
+          once = tt;
+        },
+      );
+    }
+
+    -- the sync after the cut failed
+    pub settle_failed : IsDamagedAfter bytes is.former.lines
+        → BeginsBy bytes is.former (LogFailed ∷ cut_copied)
+        × StopsAtFailure (LogFailed ∷ cut_copied)
         × IsAlways (IsSafe start []) (LogFailed ∷ cut_copied)
-    settle_failed = (
-      begins_more bytes is.former LogFailed cut_copied is_cut_copied.begins,
+    settle_failed damaged = (
+      salvages LogFailed damaged (inr refl),
+      is_cut_copied.fine,
       always_whole (IsSafe start []) cut_copied is_cut_copied.always LogFailed refl
           (begun (LogFailed ∷ cut_copied) kept is_cut_copied.written is_cut_copied.held_is is.lines
           (inr (opened.logged.items, sym is.log))),
@@ -151,19 +165,29 @@ module _ (sync salvage : Bool) (version bytes : Text) (opened : Opened)
         → HoldsBefore kept (after_cut rest opened.bytes read)
     cut_off Nothing (same, not) = record {
       always = read_is_safe;
-      begins = undamaged not;
+      fine = (refl, tt);
       written = refl;
       held_is = sym same;
     }
-    cut_off Torn not = cut_begins read read_is_safe (undamaged not) refl refl
+    cut_off Torn not = cut_begins read read_is_safe (refl, tt) refl refl
     cut_off Damaged damaged = record {
       always = always_whole (IsSafe start []) cut_copied is_cut_copied.always Sync refl
           (begun (Sync ∷ cut_copied) kept is_cut_copied.written is_cut_copied.held_is is.lines
           (inr (opened.logged.items, sym is.log)));
-      begins = begins_more bytes is.former Sync cut_copied is_cut_copied.begins;
+      fine = (refl, is_cut_copied.fine);
       written = is_cut_copied.written;
       held_is = is_cut_copied.held_is;
     }
+
+    begins_by : (rest : Rest) → IsRest rest bytes kept is.former.lines
+        → BeginsBy bytes is.former (after_cut rest opened.bytes read)
+    begins_by Nothing (same, not) = record { later = []; first = refl; salvaged = inr (not, tt) }
+    begins_by Torn not = record {
+      later = Cut opened.bytes ∷ [];
+      first = refl;
+      salvaged = inr (not, (refl, tt));
+    }
+    begins_by Damaged damaged = salvages Sync damaged (inl refl)
 
     abbrev cut : List Operation
     cut = after_cut opened.rest opened.bytes read
@@ -171,13 +195,19 @@ module _ (sync salvage : Bool) (version bytes : Text) (opened : Opened)
     is_cut : HoldsBefore kept cut
     is_cut = cut_off opened.rest is.rest
 
+    begins_cut : BeginsBy bytes is.former cut
+    begins_cut = begins_by opened.rest is.rest
+
+    begins_appended : (part : Text) → BeginsBy bytes is.former (Append part ∷ cut)
+    begins_appended part = begins_more bytes is.former (Append part) cut refl begins_cut
+
     -- a part of what comes to the log was appended
     appended_part : (part : Text) → IsPrefix part opened.logged.items
         → HoldsBefore (kept ++ part) (Append part ∷ cut)
     appended_part part (more, e) = record {
       always = append_always (IsSafe start []) cut is_cut.always part (λ first within.
           safe first (prefix_trans first part opened.logged.items within (more, e)));
-      begins = begins_more bytes is.former (Append part) cut is_cut.begins;
+      fine = (refl, is_cut.fine);
       written = is_cut.written;
       held_is = ap (λ (t : Text). t ++ part) is_cut.held_is;
     }
@@ -194,12 +224,14 @@ module _ (sync salvage : Bool) (version bytes : Text) (opened : Opened)
             ))
 
     -- after an operation that failed and changed nothing
-    append_failed : (part : Text) → IsPrefix part opened.logged.items
+    pub append_failed : (part : Text) → IsPrefix part opened.logged.items
         → BeginsBy bytes is.former (LogFailed ∷ Append part ∷ cut)
+        × StopsAtFailure (LogFailed ∷ Append part ∷ cut)
         × IsAlways (IsSafe start []) (LogFailed ∷ Append part ∷ cut)
     append_failed part (more, e) =
         let at = appended_part part (more, e) in (
-          begins_more bytes is.former LogFailed (Append part ∷ cut) at.begins,
+          begins_more bytes is.former LogFailed (Append part ∷ cut) refl (begins_appended part),
+          at.fine,
           always_whole (IsSafe start []) (Append part ∷ cut) at.always LogFailed refl
               (begun (LogFailed ∷ Append part ∷ cut) (kept ++ part) at.written at.held_is
               (has_more_lines part is.lines)
@@ -223,7 +255,7 @@ module _ (sync salvage : Bool) (version bytes : Text) (opened : Opened)
           refl
           (begun (Sync ∷ Append opened.logged.items ∷ cut) whole logged.written logged.held_is
           has_lines (inr (prefix_self whole)));
-      begins = begins_more bytes is.former Sync (Append opened.logged.items ∷ cut) logged.begins;
+      fine = (refl, logged.fine);
       written = logged.written;
       held_is = logged.held_is;
     }
@@ -240,6 +272,11 @@ module _ (sync salvage : Bool) (version bytes : Text) (opened : Opened)
 
     is_ready : HoldsBefore whole ready
     is_ready = (ready_by sync).0
+
+    begins_written : (part : Text) → BeginsBy bytes is.former (Write part ∷ ready)
+    begins_written part =
+        begins_more bytes is.former (Write part) ready refl
+        (begins_after_logging bytes is.former sync opened.logged.items cut begins_cut)
 
     on_disk : cond sync (held_after ready).synced (held_after ready).all ≡ whole
     on_disk = (ready_by sync).1
@@ -275,17 +312,19 @@ module _ (sync salvage : Bool) (version bytes : Text) (opened : Opened)
         (prefix_trans first part opened.greeting.items within is_part) (written_is first)
         is_ready.held_is on_disk)
 
-    write_failed : (part : Text) → IsPrefix part opened.greeting.items
+    pub write_failed : (part : Text) → IsPrefix part opened.greeting.items
         → BeginsBy bytes is.former (OutputFailed ∷ writes part)
+        × StopsAtFailure (OutputFailed ∷ writes part)
         × IsAlways (IsSafe start []) (OutputFailed ∷ writes part)
     write_failed part is_part = (
-      begins_more bytes is.former OutputFailed (writes part) (begins_more bytes is.former (Write part) ready is_ready.begins),
+      begins_more bytes is.former OutputFailed (writes part) refl (begins_written part),
+      (refl, is_ready.fine),
       always_whole (IsSafe start []) (writes part) (written_always part is_part) OutputFailed refl
           (greeted_part (OutputFailed ∷ writes part) part is_part (written_is part)
           is_ready.held_is on_disk),
     )
 
-    greeted : IsUnderWay start
+    pub greeted : IsUnderWay start
         (record { known = known_of opened.live; left = left; done = writes opened.greeting.items })
         nothing []
     greeted = record {
@@ -298,7 +337,8 @@ module _ (sync salvage : Bool) (version bytes : Text) (opened : Opened)
       };
       lines = tt;
       heard = Consumes-nil left;
-      begins = begins_more bytes is.former (Write opened.greeting.items) ready is_ready.begins;
+      begins = begins_written opened.greeting.items;
+      fine = (refl, is_ready.fine);
       always = written_always opened.greeting.items (prefix_self opened.greeting.items);
       log = is_ready.held_is;
       disk = on_disk;
@@ -307,64 +347,3 @@ module _ (sync salvage : Bool) (version bytes : Text) (opened : Opened)
           ∙ sym (append-nil (greeting_of version is.former));
       to_say = refl;
     }
-
--- after an append, and a sync if that is asked
-pub logged_then : (sync : Bool) (bytes : Text) (done appended now : List Operation)
-    → appended ≡ Append bytes ∷ done
-    → ((sync ≡ true) × (now ≡ Sync ∷ appended)) ⊎ ((sync ≡ false) × (now ≡ appended))
-    → now ≡ after_logging sync bytes done
-logged_then sync bytes done appended now e (inl (is, f)) =
-    f ∙ ap (λ (d : List Operation). Sync ∷ d) e
-    ∙ ap (λ b. after_logging b bytes done) (sym is)
-logged_then sync bytes done appended now e (inr (is, f)) =
-    f ∙ e ∙ ap (λ b. after_logging b bytes done) (sym is)
-
-module _ (sync salvage : Bool) (version bytes : Text) (opened : Opened) (done : List Operation)
-  where
-    -- the log after its rest was cut off
-    abbrev pub cut_from_read : List Operation
-    cut_from_read = after_cut opened.rest opened.bytes (Read bytes ∷ [])
-
-    -- all was done
-    pub begins_at : done ≡ Write opened.greeting.items
-        ∷ after_logging sync opened.logged.items cut_from_read
-        → BeginsAt sync salvage version bytes opened done
-    begins_at e =
-        subst (BeginsAt sync salvage version bytes opened) (sym e)
-        (λ is left. greeted sync salvage version bytes opened is left)
-
-    -- nothing was changed
-    pub begins_not : IsUnchanged done → BeginsInPart sync salvage version bytes opened done
-    begins_not same = λ is left. inl same
-
-    -- what is to be cut off was cut off in part
-    pub begins_to_cut : (earlier : List Operation) → earlier ≡ Read bytes ∷ []
-        → IsCutInPart opened.bytes earlier done
-        → BeginsInPart sync salvage version bytes opened done
-    begins_to_cut earlier e (inl same) =
-        begins_not (same (subst IsUnchanged (sym e) (refl, tt)))
-    begins_to_cut earlier e (inr failed) =
-        subst (BeginsInPart sync salvage version bytes opened)
-        (sym (failed ∙ ap (λ ops. LogFailed ∷ Cut opened.bytes ∷ Copy ∷ ops) e))
-        (λ is left. inr (settle_failed sync salvage version bytes opened is left))
-
-    -- an append failed, or a sync
-    pub begins_to_append : (part : Text) → IsPrefix part opened.logged.items
-        → done ≡ LogFailed ∷ Append part ∷ cut_from_read
-        → BeginsInPart sync salvage version bytes opened done
-    begins_to_append part is_part e =
-        subst (BeginsInPart sync salvage version bytes opened) (sym e)
-        (λ is left. inr (append_failed sync salvage version bytes opened is left part is_part))
-
-    pub begins_to_sync : done ≡ LogFailed ∷ Append opened.logged.items ∷ cut_from_read
-        → BeginsInPart sync salvage version bytes opened done
-    begins_to_sync e = begins_to_append opened.logged.items (prefix_self opened.logged.items) e
-
-    -- a write of the greeting failed
-    pub begins_to_write : (part : Text) → IsPrefix part opened.greeting.items
-        → done ≡ OutputFailed ∷ Write part
-        ∷ after_logging sync opened.logged.items cut_from_read
-        → BeginsInPart sync salvage version bytes opened done
-    begins_to_write part is_part e =
-        subst (BeginsInPart sync salvage version bytes opened) (sym e)
-        (λ is left. inr (write_failed sync salvage version bytes opened is left part is_part))

@@ -59,6 +59,7 @@ broken_anyhow start now known broken = record {
   lines = broken.lines;
   heard = broken.heard;
   begins = broken.begins;
+  stops = broken.stops;
   always = broken.always;
 }
 

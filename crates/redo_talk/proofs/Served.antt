@@ -1,10 +1,12 @@
 -- The public view of a conversation: from its log's old bytes on.
-use Rattle.std.proofs.Common.{◌≡◌, Bool, List, [], ◌∷◌, ◌++◌, Option, refl, sym, ap, ◌∙◌, subst, append-nil, inl, inr}
-use Rattle.std.specs.Prelude.{IsTrue}
+use Rattle.std.proofs.Common.{◌≡◌, ◌==◌, ℕ, Bool, not, List, [], ◌∷◌, ◌++◌, Option, refl, sym, ap, ◌∙◌, subst, append-nil, inl, inr}
+use Rattle.std.specs.Prelude.{◌↔◌, IsTrue, ⊤}
+use Rattle.std.proofs.lemmas.Bool.{false≢true}
 use Rattle.std.proofs.KnownBytes.{Consumes-nil}
 use Rattle.redo_model.specs.Names.{Text, texts}
 use Rattle.redo_model.specs.History.{Legal}
-use Rattle.redo_log.specs.Operations.{Operation, Read as ReadLog, Append, Cut, Sync, Revert, Copy, Write as WriteOut, LogFailed, OutputFailed, IsAlways}
+use Rattle.redo_log.specs.Operations.{Operation, Read as ReadLog, Append, Cut, Sync, Revert, Copy, Write as WriteOut, LogFailed, OutputFailed, HasNoFailure, StopsAtFailure, IsAlways}
+use Rattle.redo_whole.proofs.Counts.{same_count}
 use Rattle.redo_talk.specs.Causes.{AnsweredAll, TalkedSoFar, IsServeCause, IsUnchanged, output_failed}
 use Rattle.redo_talk.specs.Rounds.{Round}
 use Rattle.redo_talk.specs.Talks.{Former, AreRestored, AreEnded, BeginsBy, history_of, log_of, output_of}
@@ -19,6 +21,11 @@ use Rattle.redo_talk.specs.declared.fault.ServeFault.TheVariants.{Memory, Worn, 
 use Rattle.redo_talk.specs.declared.opening.Opened.{Opened}
 use Rattle.redo_talk.proofs.Led.{steps_are_rounds, steps_lead}
 use Rattle.redo_talk.proofs.Moments.{output_more}
+
+-- where no operation failed, none was done after one that failed
+stops_if_fine : (done : List Operation) → HasNoFailure done → StopsAtFailure done
+stops_if_fine [] fine = tt
+stops_if_fine (operation ∷ done) fine = fine.1
 
 module _ (keeping : Keeping) (version bytes : Text) (former : Former) (input : Option Text)
     (restored : AreRestored keeping.salvage bytes former.lines) (ended : AreEnded former)
@@ -40,6 +47,7 @@ module _ (keeping : Keeping) (version bytes : Text) (former : Former) (input : O
       record {
         bytes = bytes;
         begins = broken.begins;
+        stops = broken.stops;
         restored = restored;
         ended = ended;
         legal = (steps_lead (history_of former) (known_first start) broken.known broken.rounds led
@@ -76,6 +84,7 @@ module _ (keeping : Keeping) (version bytes : Text) (former : Former) (input : O
             talk = record {
               bytes = bytes;
               begins = way.begins;
+              stops = stops_if_fine done way.fine;
               restored = restored;
               ended = ended;
               legal = (steps_lead (history_of former) (known_first start) known rounds led
@@ -86,6 +95,7 @@ module _ (keeping : Keeping) (version bytes : Text) (former : Former) (input : O
               heard = way.heard;
               always = way.always;
             };
+            fine = way.fine;
             unended = free;
             log = way.log ∙ sym (append-nil (log_of former way.sent)) ∙ sym way.to_log;
             output = way.output ∙ all_written known left done more way;
@@ -94,25 +104,24 @@ module _ (keeping : Keeping) (version bytes : Text) (former : Former) (input : O
 
     -- why it ended
     pub talk_cause_serves : (known : Known) (left : Option Text) (done : List Operation)
-        (read_failed : Bool) (fault : ServeFault) → IsTalkCause start known left done read_failed fault
-        → IsServeCause keeping version input left done read_failed fault
-    talk_cause_serves known left done read_failed Read (failed, all) =
-        (failed, answers_all known left done all)
-    talk_cause_serves known left done read_failed TooLong all = answers_all known left done all
-    talk_cause_serves known left done read_failed (Log fault) (failed, broken) = (
+        (fault : ServeFault) → IsTalkCause start known left done fault
+        → IsServeCause keeping version input left done fault
+    talk_cause_serves known left done Read all = answers_all known left done all
+    talk_cause_serves known left done TooLong all = answers_all known left done all
+    talk_cause_serves known left done (Log fault) (failed, broken) = (
       failed,
       inr (talked_so_far (record { known = known; left = left; done = done }) broken),
     )
-    talk_cause_serves known left done read_failed Write (failed, broken) =
+    talk_cause_serves known left done Write (failed, broken) =
         (failed, talked_so_far (record { known = known; left = left; done = done }) broken)
-    talk_cause_serves known left done read_failed Memory cause = absurd cause
-    talk_cause_serves known left done read_failed Worn cause = absurd cause
-    talk_cause_serves known left done read_failed (Differs line) cause = absurd cause
+    talk_cause_serves known left done Memory cause = absurd cause
+    talk_cause_serves known left done Worn cause = absurd cause
+    talk_cause_serves known left done (Differs line) cause = absurd cause
 
     -- it began in part
-    began_in_part : (done : List Operation) → BeginsBy bytes former done
+    began_in_part : (done : List Operation) → BeginsBy bytes former done → StopsAtFailure done
         → IsAlways (IsSafe start []) done → TalkedSoFar keeping version input input done
-    began_in_part done begins always =
+    began_in_part done begins stops always =
         talked_so_far (record { known = known_first start; left = input; done = done })
         (record {
           known = known_first start;
@@ -122,14 +131,31 @@ module _ (keeping : Keeping) (version bytes : Text) (former : Former) (input : O
           lines = tt;
           heard = Consumes-nil input;
           begins = begins;
+          stops = stops;
           always = always;
         })
 
 -- a log was read, and nothing was done then
 pub unchanged_by_read : (done earlier : List Operation) (bytes : Text) → done ≡ ReadLog bytes ∷ earlier
-    → earlier ≡ [] → IsUnchanged done
+    → earlier ≡ [] → IsUnchanged done × StopsAtFailure done
 unchanged_by_read done earlier bytes e f =
-    subst IsUnchanged (sym (e ∙ ap (λ ops. ReadLog bytes ∷ ops) f)) (refl, tt)
+    subst (λ ops. IsUnchanged ops × StopsAtFailure ops)
+    (sym (e ∙ ap (λ ops. ReadLog bytes ∷ ops) f)) ((refl, tt), tt)
+
+abbrev IsOther : ServeFault → Type 0
+IsOther Read = ⊥
+IsOther fault = ⊤
+
+pub memory_is_no_read : Memory ≡ Read → ⊥
+memory_is_no_read same = subst IsOther same tt
+
+-- a fault that isn't that of a read, where none failed
+pub no_read_failed : (fault : ServeFault) (failures : ℕ) → (fault ≡ Read → ⊥)
+    → (fault ≡ Read) ↔ IsTrue (not (failures == failures))
+no_read_failed fault failures other = (
+  λ same. absurd (other same),
+  λ failed. absurd (false≢true (sym (same_count failures) ∙ failed)),
+)
 
 -- a failure of the output isn't one of the log
 output_changes : (done : List Operation) → IsTrue (output_failed done) → IsUnchanged done → ⊥
@@ -147,34 +173,34 @@ output_changes (LogFailed ∷ earlier) failed same = absurd (cc)
 module _ (keeping : Keeping) (version bytes : Text) (opened : Opened) (input : Option Text)
     (is : IsOpenedFrom keeping.salvage version bytes opened)
   where
-    in_part : (done : List Operation) → BeginsBy bytes is.former done
+    in_part : (done : List Operation) → BeginsBy bytes is.former done → StopsAtFailure done
         → IsAlways (IsSafe (start_of keeping.sync version bytes is.former input) []) done
         → TalkedSoFar keeping version input input done
-    in_part done begins always =
+    in_part done begins stops always =
         began_in_part keeping version bytes is.former input is.restored is.ended is.left.legal done
-        begins always
+        begins stops always
 
     -- the log or the output failed at the beginning
-    pub begin_cause_serves : (done : List Operation) (read_failed : Bool) (fault : ServeFault)
+    pub begin_cause_serves : (done : List Operation) (fault : ServeFault)
         → IsSendCause done fault
         → BeginsInPart keeping.sync keeping.salvage version bytes opened done
-        → IsServeCause keeping version input input done read_failed fault
-    begin_cause_serves done read_failed (Log fault) failed part = (
+        → IsServeCause keeping version input input done fault
+    begin_cause_serves done (Log fault) failed part = (
       failed,
       elim (part is input) [
-        | inl same ↦ inl (refl, same)
-        | inr (begins, always) ↦ inr (in_part done begins always)
+        | inl (same, stops) ↦ inl (refl, same, stops)
+        | inr (begins, stops, always) ↦ inr (in_part done begins stops always)
       ],
     )
-    begin_cause_serves done read_failed Write failed part = (
+    begin_cause_serves done Write failed part = (
       failed,
       elim (part is input) [
-        | inl same ↦ absurd (output_changes done failed same)
-        | inr (begins, always) ↦ in_part done begins always
+        | inl same ↦ absurd (output_changes done failed same.0)
+        | inr (begins, stops, always) ↦ in_part done begins stops always
       ],
     )
-    begin_cause_serves done read_failed Memory cause part = absurd cause
-    begin_cause_serves done read_failed Worn cause part = absurd cause
-    begin_cause_serves done read_failed (Differs line) cause part = absurd cause
-    begin_cause_serves done read_failed Read cause part = absurd cause
-    begin_cause_serves done read_failed TooLong cause part = absurd cause
+    begin_cause_serves done Memory cause part = absurd cause
+    begin_cause_serves done Worn cause part = absurd cause
+    begin_cause_serves done (Differs line) cause part = absurd cause
+    begin_cause_serves done Read cause part = absurd cause
+    begin_cause_serves done TooLong cause part = absurd cause

@@ -30,6 +30,7 @@ module _ (start : Start) (known : Known) (left left' : Option Text) (done : List
       heard = Consumes-kept start.left left left' (heard_in (talk.sent ++ talk.kept) ++ begun)
           talk.heard same;
       begins = talk.begins;
+      fine = talk.fine;
       always = talk.always;
       log = talk.log;
       disk = talk.disk;
@@ -61,13 +62,13 @@ answered_all start known left done logged said begun e f free talk =
 
 -- an operation failed
 pub send_cause_talks : (start : Start) (known : Known) (left : Option Text) (done : List Operation)
-    (read_failed : Bool) (fault : ServeFault) → IsSendCause done fault
+    (fault : ServeFault) → IsSendCause done fault
     → IsBrokenOff start (record { known = known; left = left; done = done })
-    → IsTalkCause start known left done read_failed fault
-send_cause_talks start known left done read_failed (Log fault) cause broken = (cause, broken)
-send_cause_talks start known left done read_failed Write cause broken = (cause, broken)
-send_cause_talks start known left done read_failed Memory cause broken = absurd cause
-send_cause_talks start known left done read_failed Worn cause broken = absurd cause
-send_cause_talks start known left done read_failed (Differs line) cause broken = absurd cause
-send_cause_talks start known left done read_failed Read cause broken = absurd cause
-send_cause_talks start known left done read_failed TooLong cause broken = absurd cause
+    → IsTalkCause start known left done fault
+send_cause_talks start known left done (Log fault) cause broken = (cause, broken)
+send_cause_talks start known left done Write cause broken = (cause, broken)
+send_cause_talks start known left done Memory cause broken = absurd cause
+send_cause_talks start known left done Worn cause broken = absurd cause
+send_cause_talks start known left done (Differs line) cause broken = absurd cause
+send_cause_talks start known left done Read cause broken = absurd cause
+send_cause_talks start known left done TooLong cause broken = absurd cause

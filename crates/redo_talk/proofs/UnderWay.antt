@@ -6,7 +6,7 @@ use Rattle.std.proofs.lemmas.List.Concat.{flat_map-append}
 use Rattle.redo_model.specs.Names.{Text, texts}
 use Rattle.redo_model.specs.History.{left_by}
 use Rattle.redo_history.specs.Histories.{ended}
-use Rattle.redo_log.specs.Operations.{Operation, Append, Sync, Revert, Write, LogFailed, OutputFailed, IsPrefix, IsAlways, held_after, written_by}
+use Rattle.redo_log.specs.Operations.{Operation, Append, Sync, Revert, Write, LogFailed, OutputFailed, HasNoFailure, StopsAtFailure, IsPrefix, IsAlways, held_after, written_by}
 use Rattle.redo_talk.specs.Logs.{HasNoEnd, logged_of}
 use Rattle.redo_talk.specs.Rounds.{Round, lines_in, heard_in, said_in}
 use Rattle.redo_talk.specs.Talks.{AreLines, BeginsBy, log_of, output_of}
@@ -14,16 +14,8 @@ use Rattle.redo_talk.specs.Inside.Moments.{Start, Moment, Waiting, IsSafe, IsUnd
 use Rattle.redo_talk.specs.Inside.Sending.{IsAppendedInPart, IsUnsynced, IsWrittenInPart, IsSentInPart, after_logging, sent_after}
 use Rattle.redo_talk.specs.Inside.Steps.{Known, IsStep, AreSteps}
 use Rattle.redo_talk.specs.Inside.Talking.{nothing}
-use Rattle.redo_talk.proofs.Moments.{begins_more, lines_more, prefix_self, prefix_of_same, prefix_trans, prefix_of_either, prefix_behind, append_always, write_always, log_more, output_more, always_more, log_failed_safe, output_failed_safe, all_after_logging, kept_after_logging, written_after_logging, always_after_logging}
+use Rattle.redo_talk.proofs.Moments.{begins_after_logging, begins_more, fine_after_logging, lines_more, prefix_self, prefix_of_same, prefix_trans, prefix_of_either, prefix_behind, append_always, write_always, log_more, output_more, always_more, log_failed_safe, output_failed_safe, all_after_logging, kept_after_logging, written_after_logging, always_after_logging}
 use Rattle.redo_talk.proofs.RoundByRound.{steps_more, steps_state, in_more}
-
-begins_after_logging : (start : Start) (sync : Bool) (logged : Text) (done : List Operation)
-    → BeginsBy start.bytes start.former done
-    → BeginsBy start.bytes start.former (after_logging sync logged done)
-begins_after_logging start true logged done begins =
-    begins_more start.bytes start.former Sync (Append logged ∷ done) (begins_more start.bytes start.former (Append logged) done begins)
-begins_after_logging start false logged done begins =
-    begins_more start.bytes start.former (Append logged) done begins
 
 -- what is kept of the log while more is appended
 kept_while_appending : (sync : Bool) (log synced all some : Text) → cond sync synced all ≡ log
@@ -42,6 +34,13 @@ module _ (start : Start) (now : Moment) (waiting : Waiting) (more : Text)
 
     abbrev logged : List Operation
     logged = after_logging start.sync waiting.logged now.done
+
+    begins_logged : BeginsBy start.bytes start.former logged
+    begins_logged =
+        begins_after_logging start.bytes start.former start.sync waiting.logged now.done way.begins
+
+    fine_logged : HasNoFailure logged
+    fine_logged = fine_after_logging waiting.logged now.done way.fine start.sync
 
     -- a line was read and answered
     pub answered_more : (round : Round) (known : Known) (rest : Text)
@@ -67,6 +66,7 @@ module _ (start : Start) (now : Moment) (waiting : Waiting) (more : Text)
               ∙ ap (λ t. t ++ rest)
               (sym (in_more (λ r. ended r.heard) way.sent way.kept round))) way.heard;
           begins = way.begins;
+          fine = way.fine;
           always = subst (λ rs. IsAlways (IsSafe start rs) now.done) assoc
               (always_more start rounds (round ∷ []) now.done way.always);
           log = way.log;
@@ -97,6 +97,7 @@ module _ (start : Start) (now : Moment) (waiting : Waiting) (more : Text)
       heard = subst (Consumes start.left left) (append_assoc (heard_in rounds) more bytes)
           (Consumes-trans start.left now.left left (heard_in rounds ++ more) bytes way.heard taken);
       begins = way.begins;
+      fine = way.fine;
       always = way.always;
       log = way.log;
       disk = way.disk;
@@ -203,8 +204,9 @@ module _ (start : Start) (now : Moment) (waiting : Waiting) (more : Text)
           lines = subst AreLines (sym none) way.lines;
           heard = subst (λ rs. Consumes start.left now.left (heard_in rs ++ more)) (sym none)
               way.heard;
-          begins = begins_more start.bytes start.former (Write waiting.said) logged
-              (begins_after_logging start start.sync waiting.logged now.done way.begins);
+          begins = begins_more start.bytes start.former (Write waiting.said) logged refl
+              begins_logged;
+          fine = (refl, fine_logged);
           always = subst (λ rs. IsAlways (IsSafe start rs) (Write waiting.said ∷ logged))
               (sym none) writes_safely;
           log = all_after_logging waiting.logged now.done start.sync ∙ log_whole;
@@ -215,8 +217,9 @@ module _ (start : Start) (now : Moment) (waiting : Waiting) (more : Text)
         }
 
     broken_by : (done : List Operation) → BeginsBy start.bytes start.former done
-        → IsAlways (IsSafe start rounds) done → IsBrokenOff start (record now { done = done })
-    broken_by done begins always = record {
+        → StopsAtFailure done → IsAlways (IsSafe start rounds) done
+        → IsBrokenOff start (record now { done = done })
+    broken_by done begins stops always = record {
       known = now.known;
       rounds = rounds;
       more = more;
@@ -224,6 +227,7 @@ module _ (start : Start) (now : Moment) (waiting : Waiting) (more : Text)
       lines = way.lines;
       heard = way.heard;
       begins = begins;
+      stops = stops;
       always = always;
     }
 
@@ -238,8 +242,9 @@ module _ (start : Start) (now : Moment) (waiting : Waiting) (more : Text)
         (prefix_trans less some waiting.logged is part)) in
         subst (λ ops. IsBrokenOff start (record now { done = ops })) (sym e)
         (broken_by (LogFailed ∷ appended)
-        (begins_more start.bytes start.former LogFailed appended
-        (begins_more start.bytes start.former (Append some) now.done way.begins)) (
+        (begins_more start.bytes start.former LogFailed appended refl
+        (begins_more start.bytes start.former (Append some) now.done refl way.begins))
+        (refl, way.fine) (
           λ last same. subst (λ o. IsSafe start rounds (o ∷ appended)) (sym same)
               (log_failed_safe start rounds appended (append_safe some part)),
           whole,
@@ -268,17 +273,22 @@ module _ (start : Start) (now : Moment) (waiting : Waiting) (more : Text)
         → IsBrokenOff start (record now { done = done })
     sync_broken done synced failed =
         let appended = Append waiting.logged ∷ now.done in
-        let begins = begins_more start.bytes start.former (Append waiting.logged) now.done way.begins in
+        let begins = begins_more start.bytes start.former (Append waiting.logged) now.done refl
+        way.begins in
         let whole = append_safe waiting.logged (prefix_self waiting.logged) in
         elim failed [
           | inl e ↦ subst (λ ops. IsBrokenOff start (record now { done = ops })) (sym e)
-              (broken_by (LogFailed ∷ appended) (begins_more start.bytes start.former LogFailed appended begins) (
+              (broken_by (LogFailed ∷ appended)
+              (begins_more start.bytes start.former LogFailed appended refl begins)
+              (refl, way.fine) (
                 λ last same. subst (λ o. IsSafe start rounds (o ∷ appended)) (sym same)
                     (log_failed_safe start rounds appended whole),
                 appends_safely,
               ))
           | inr e ↦ subst (λ ops. IsBrokenOff start (record now { done = ops })) (sym e)
-              (broken_by (Revert ∷ appended) (begins_more start.bytes start.former Revert appended begins) (
+              (broken_by (Revert ∷ appended)
+              (begins_more start.bytes start.former Revert appended refl begins)
+              (refl, way.fine) (
                 λ last same. subst (λ o. IsSafe start rounds (o ∷ appended)) (sym same)
                     (unsynced_safe synced),
                 appends_safely,
@@ -295,9 +305,9 @@ module _ (start : Start) (now : Moment) (waiting : Waiting) (more : Text)
         (λ less is. write_safe less (prefix_trans less some waiting.said is part)) in
         subst (λ ops. IsBrokenOff start (record now { done = ops })) (sym e)
         (broken_by (OutputFailed ∷ written)
-        (begins_more start.bytes start.former OutputFailed written
-        (begins_more start.bytes start.former (Write some) logged
-        (begins_after_logging start start.sync waiting.logged now.done way.begins))) (
+        (begins_more start.bytes start.former OutputFailed written refl
+        (begins_more start.bytes start.former (Write some) logged refl begins_logged))
+        (refl, fine_logged) (
           λ last same. subst (λ o. IsSafe start rounds (o ∷ written)) (sym same)
               (output_failed_safe start rounds written (write_safe some part)),
           whole,

@@ -2,7 +2,7 @@
 use Rattle.std.specs.Prelude.{◌≡◌, ◌⊎◌, ℕ, Bool, true, false, List, [], ◌∷◌, Option, IsTrue}
 use Rattle.std.specs.List.{AllByRecursion}
 use Rattle.redo_model.specs.Names.{Text}
-use Rattle.redo_log.specs.Operations.{Operation, Read, Revert, LogFailed, OutputFailed, changes_nothing}
+use Rattle.redo_log.specs.Operations.{Operation, Read, Revert, LogFailed, OutputFailed, StopsAtFailure, changes_nothing}
 use Rattle.redo_log.specs.Restores.{DiffersAt, HasTooMany}
 use Rattle.redo_talk.specs.Rounds.{Round}
 use Rattle.redo_talk.specs.Talks.{Former, IsTalk, IsConversation}
@@ -30,7 +30,7 @@ module _ (keeping : Keeping) (version : Text) (input input_after : Option Text)
   where
     -- nothing was heard, and neither the log nor the output was changed
     abbrev pub HasNotBegun : Type 0
-    HasNotBegun = (input_after ≡ input) × IsUnchanged done
+    HasNotBegun = (input_after ≡ input) × IsUnchanged done × StopsAtFailure done
 
     -- the log was read, it has these bytes, and then nothing was done
     abbrev pub HasOnlyRead : Text → Type 0
@@ -48,16 +48,16 @@ module _ (keeping : Keeping) (version : Text) (input input_after : Option Text)
         (former : Former) × (rounds : List Round) × (rest : Text)
         × IsConversation keeping version former rounds rest input input_after done
 
-    -- the cause of a fault; `read_failed` says whether a read of the input failed
-    abbrev pub IsServeCause : Bool → ServeFault → Type 0
-    IsServeCause read_failed faults.Memory = HasNotBegun
-    IsServeCause read_failed faults.Worn = (bytes : Text) × HasOnlyRead bytes × HasTooMany bytes
-    IsServeCause read_failed (faults.Differs line) =
+    -- the cause of a fault
+    abbrev pub IsServeCause : ServeFault → Type 0
+    IsServeCause faults.Memory = HasNotBegun
+    IsServeCause faults.Worn = (bytes : Text) × HasOnlyRead bytes × HasTooMany bytes
+    IsServeCause (faults.Differs line) =
         (keeping.salvage ≡ false)
         × ((bytes : Text) × HasOnlyRead bytes
         × ((count : ℕ) × (size : ℕ) × DiffersAt bytes line count size))
-    IsServeCause read_failed (faults.Log fault) =
+    IsServeCause (faults.Log fault) =
         IsTrue (log_failed done) × (HasNotBegun ⊎ TalkedSoFar)
-    IsServeCause read_failed faults.Read = IsTrue read_failed × AnsweredAll
-    IsServeCause read_failed faults.TooLong = AnsweredAll
-    IsServeCause read_failed faults.Write = IsTrue (output_failed done) × TalkedSoFar
+    IsServeCause faults.Read = AnsweredAll
+    IsServeCause faults.TooLong = AnsweredAll
+    IsServeCause faults.Write = IsTrue (output_failed done) × TalkedSoFar

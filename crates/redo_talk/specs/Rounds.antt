@@ -115,6 +115,12 @@ AreRounds before [] = Unit {0}
 AreRounds before (round ∷ rounds) =
     IsRound before round × AreRounds (before ++ round.lines) rounds
 
+-- each ends a session
+abbrev pub AreEnds : List (Line Text) → List Round → Type 0
+AreEnds before [] = Unit {0}
+AreEnds before (round ∷ rounds) =
+    IsEnded before round × AreEnds (before ++ round.lines) rounds
+
 abbrev pub lines_in : List Round → List (Line Text)
 lines_in rounds = flat_map (λ round. round.lines) rounds
 

@@ -1,5 +1,5 @@
 -- What a conversation restores, answers and logs, and what its log and its output hold at each moment.
-use Rattle.std.specs.Prelude.{◌≡◌, ◌⊎◌, ℕ, ◌+◌, Bool, false, cond, List, [], ◌∷◌, ◌++◌, Option, None, IsTrue, map, length, codes, decimal}
+use Rattle.std.specs.Prelude.{◌≡◌, ◌⊎◌, ◌↔◌, ℕ, ◌+◌, Bool, false, cond, Contains, List, [], ◌∷◌, ◌++◌, Option, Some, None, IsTrue, map, length, codes, decimal}
 use Rattle.std.specs.List.{AllByRecursion}
 use Rattle.std.specs.List.Sorted.{IsStrictlyIncreasing}
 use Rattle.std.specs.Io.KnownBytes.{Consumes}
@@ -10,8 +10,8 @@ use Rattle.redo_history.specs.Histories.{ended}
 use Rattle.redo_live.specs.Lines.{lines_text_of}
 use Rattle.redo_log.specs.Logs.{log_header, IsLogOf, IsTornHeader}
 use Rattle.redo_log.specs.Restores.{IsDamagedAfter}
-use Rattle.redo_log.specs.Operations.{Operation, Read, Copy, held_after, written_by, IsPrefix, IsAlways}
-use Rattle.redo_talk.specs.Rounds.{Round, AreRounds, end_word, lines_in, heard_in, said_in}
+use Rattle.redo_log.specs.Operations.{Operation, Read, Cut, Sync, Copy, LogFailed, HasNoFailure, StopsAtFailure, held_after, is_copy, written_by, IsPrefix, IsAlways}
+use Rattle.redo_talk.specs.Rounds.{Round, AreEnds, AreRounds, end_word, lines_in, heard_in, said_in}
 use Rattle.redo_talk.specs.Logs.{HasNoEnd, logged_of}
 use Rattle.redo_talk.specs.declared.keeping.Keeping.{Keeping}
 
@@ -37,13 +37,15 @@ HoldsNothing state =
     (t : Text) → (state.locks.holder t ≡ None)
     × (is_building (target_state state.records t) ≡ false)
 
--- these sessions ended, in the order of their numbers, and nothing is held then
+-- these sessions, all that held something, ended in the order of their numbers, and nothing is held then
 pub record AreEnded (former : Former) : Type 0 where
   pub sessions : List ℕ
+  pub holders : (s : ℕ) → Contains sessions s
+      ↔ ((t : Text) × ((left_by texts empty former.lines).locks.holder t ≡ Some s))
   pub ascending : IsStrictlyIncreasing sessions
   pub asked : map (λ round. round.heard) former.ends
       ≡ map (λ s. decimal (s + 1) ++ codes " " ++ end_word) sessions
-  pub rounds : AreRounds former.lines former.ends
+  pub ends : AreEnds former.lines former.ends
   pub nothing : HoldsNothing (left_by texts empty (history_of former))
 
 -- each was one line: there is no LF in it
@@ -86,12 +88,25 @@ pub record IsLoggedFirst (sync : Bool) (version : Text) (former : Former) (round
       (cond sync (held_after done).synced (held_after done).all)
   pub nothing_else : IsPrefix (held_after done).all (log_of former rounds)
 
--- the first operations on the log: it is read, and copied before it is cut where it is damaged
+-- the log is not copied
+abbrev pub HasNoCopy : List Operation → Type 0
+HasNoCopy done = AllByRecursion (λ operation. is_copy operation ≡ false) done
+
+-- the log was copied, once, and then cut, and the cut was synced before anything else was done, or the sync failed
+pub record IsSalvaged (done : List Operation) : Type 0 where
+  pub size : ℕ
+  pub synced : Operation
+  pub rest : List Operation
+  pub are : done ≡ rest ++ synced ∷ Cut size ∷ Copy ∷ []
+  pub sync : (synced ≡ Sync) ⊎ (synced ≡ LogFailed)
+  pub once : HasNoCopy rest
+
+-- the first operation is the log's read; then a damaged log is salvaged, and no other is copied
 pub record BeginsBy (bytes : Text) (former : Former) (done : List Operation) : Type 0 where
   pub later : List Operation
   pub first : (done ≡ later ++ Read bytes ∷ [])
-  pub copied : IsDamagedAfter bytes former.lines
-      → (rest : List Operation) × (later ≡ rest ++ Copy ∷ [])
+  pub salvaged : (IsDamagedAfter bytes former.lines × IsSalvaged later)
+      ⊎ (¬ (IsDamagedAfter bytes former.lines) × HasNoCopy later)
 
 -- from these operations on, of which the newest comes first: the log's lines were restored, the sessions that they left
 -- were ended, and the rounds are those of the lines that were read; then come bytes that were not answered
@@ -99,6 +114,7 @@ pub record IsTalk (keeping : Keeping) (version : Text) (former : Former) (rounds
     (rest : Text) (input input_after : Option Text) (done : List Operation) : Type 0 where
   pub bytes : Text
   pub begins : BeginsBy bytes former done
+  pub stops : StopsAtFailure done
   pub restored : AreRestored keeping.salvage bytes former.lines
   pub ended : AreEnded former
   pub legal : Legal texts (history_of former ++ lines_in rounds)
@@ -113,6 +129,7 @@ pub record IsConversation (keeping : Keeping) (version : Text) (former : Former)
     (rounds : List Round) (rest : Text) (input input_after : Option Text) (done : List Operation)
     : Type 0 where
   pub talk : IsTalk keeping version former rounds rest input input_after done
+  pub fine : HasNoFailure done
   pub unended : HasNoEnd rest
   pub log : (held_after done).all ≡ log_of former rounds
   pub output : written_by done ≡ output_of version former rounds

@@ -34,7 +34,7 @@ pub fn own_lines_in_order()
 {}
 
 /// The log of a conversation is a log of lines that leave the state that the conversation left: from it the next one
-/// goes on.
+/// goes on, if memory and the counters suffice.
 pub fn log_restores()
     ensures log { (keeping : Keeping) (version : Text) (former : Former) (rounds : List Round)
         (rest : Text) (input input_after : Option Text) (done : List Operation)
@@ -47,8 +47,8 @@ pub fn log_restores()
         ≡ left_by texts empty (lines_after former rounds) }
 {}
 
-/// At each moment a conversation can be cut off, and its log restored: with the lines that were restored before, and once
-/// answers are written with all that was logged for these.
+/// At each moment a conversation can be cut off, and its log restored, or salvaged where it was damaged: with the lines
+/// that were restored before, and once answers are written with all that was logged for these.
 pub fn log_is_always_one()
     ensures { (keeping : Keeping) (version : Text) (former : Former) (rounds : List Round)
         (rest : Text) (input input_after : Option Text) (done : List Operation)

@@ -1,10 +1,10 @@
 //! How a log is opened: its lines are done again, and the sessions that it left end.
-ghost use Rattle.std.specs.Prelude.{◌≡◌, Bool, List, [], ◌∷◌, ◌++◌, codes, decimal, IfOk, IfErr, OnOk, OnErr};
+ghost use Rattle.std.specs.Prelude.{◌≡◌, ◌≤◌, Bool, List, [], ◌∷◌, ◌++◌, codes, decimal, length, IfOk, IfErr, OnOk, OnErr};
 ghost use Rattle.redo_model.specs.History.{Line};
 ghost use Rattle.redo_model.specs.Names.{Text};
 ghost use Rattle.redo_history.specs.Histories.{ended};
 ghost use Rattle.redo_log.specs.Logs.{AreLogged};
-ghost use Rattle.redo_log.specs.Operations.{Read};
+ghost use Rattle.redo_log.specs.Operations.{Read, held_after};
 ghost use Rattle.redo_talk.specs.Inside.LeftBy.{IsLeftBy};
 ghost use Rattle.redo_talk.specs.Inside.Opening.{EndsAll, IsKeptFrom, IsOpenCause, IsOpenedFrom, BeginsAt, BeginsInPart, IsCutInPart, after_cut};
 ghost use Rattle.redo_talk.specs.Inside.Sending.{IsSendCause};
@@ -132,10 +132,11 @@ pub(crate) fn open(
 /// Cuts off what comes after the lines that are kept. A damaged log is copied first, and synced then: else, if power is
 /// lost, what was cut off could come back behind lines that are appended now.
 fn cut_rest<D: Devices>(opened: &Opened, devices: &mut D) -> Result<(), ServeFault>
+    requires { opened.now.bytes ≤ length (held_after (D.history devices.old)).all }
     ensures cut { OnOk result (D.history devices.new
         ≡ after_cut opened.now.rest opened.now.bytes (D.history devices.old)) }
-    ensures part { OnErr result (IsCutInPart opened.now.bytes (D.history devices.old)
-        (D.history devices.new)) }
+    ensures part { OnErr result (IsCutInPart opened.now.rest opened.now.bytes
+        (D.history devices.old) (D.history devices.new)) }
     ensures cause { IfErr result (IsSendCause (D.history devices.new)) }
 {
     match opened.rest {
@@ -157,6 +158,7 @@ pub(crate) fn begin<D: Devices>(
     sync: bool,
     devices: &mut D,
 ) -> Result<(), ServeFault>
+    requires { opened.now.bytes ≤ length (held_after (D.history devices.old)).all }
     ensures begun { OnOk result ((salvage : Bool) (version bytes : Text)
         → D.history devices.old ≡ Read bytes ∷ []
         → BeginsAt sync salvage version bytes opened.now (D.history devices.new)) }

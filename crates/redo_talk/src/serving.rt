@@ -1,4 +1,4 @@
-ghost use Rattle.std.specs.Prelude.{◌≡◌, List, [], OnOk, IfErr};
+ghost use Rattle.std.specs.Prelude.{◌≡◌, ◌↔◌, List, [], IsTrue, OnOk, IfErr, IsErrAnd};
 ghost use Rattle.std.specs.Io.KnownBytes.{IsAtEnd};
 ghost use Rattle.redo_whole.specs.Devices.{known_in};
 ghost use Rattle.redo_whole.specs.Watched.{has_failed};
@@ -31,7 +31,9 @@ pub fn serve<R: Read, D: Devices>(
     ensures end { OnOk result (IsAtEnd (known_in R.remaining input.new)) }
     ensures cause { IfErr result (IsServeCause keeping version.now
         (known_in R.remaining input.old) (known_in R.remaining input.new)
-        (D.history devices.new) (has_failed input.old input.new)) }
+        (D.history devices.new)) }
+    ensures read { IsErrAnd result (λ fault. fault ≡ ServeFault.Read)
+        ↔ IsTrue (has_failed input.old input.new) }
 {
     let log = devices.read(alloc, LOG_HEADER)?;
     let mut opened = open(alloc, version, keeping.salvage, log)?;

@@ -1,4 +1,4 @@
-ghost use Rattle.std.specs.Prelude.{◌≡◌, ◌<◌, ◌≤◌, [], length, vec_capacity, OnOk, IfOk, IfErr};
+ghost use Rattle.std.specs.Prelude.{◌≡◌, ◌↔◌, ◌<◌, ◌≤◌, [], length, vec_capacity, IsTrue, OnOk, IfOk, IfErr, IsErrAnd};
 ghost use Rattle.std.specs.Io.KnownBytes.{IsAtEnd};
 ghost use Rattle.redo_whole.specs.Devices.{known_in};
 ghost use Rattle.redo_whole.specs.Watched.{has_failed};
@@ -52,8 +52,9 @@ pub(crate) fn talk<R: Read, D: Devices>(
     ensures end { OnOk result (IsAtEnd (known_in R.remaining input.new)) }
     ensures cause { IfErr result (λ fault. TalksFrom sync (known_of live.old)
         (known_in R.remaining input.old) (D.history devices.old) (λ start. IsTalkCause start
-        (known_of live.new) (known_in R.remaining input.new) (D.history devices.new)
-        (has_failed input.old input.new) fault)) }
+        (known_of live.new) (known_in R.remaining input.new) (D.history devices.new) fault)) }
+    ensures read { IsErrAnd result (λ fault. fault ≡ ServeFault.Read)
+        ↔ IsTrue (has_failed input.old input.new) }
 {
     let Buffers {
         mut chunk,

@@ -5,7 +5,7 @@ use Rattle.redo_model.specs.Names.{Text, texts}
 use Rattle.redo_model.specs.State.{empty}
 use Rattle.redo_model.specs.History.{left_by}
 use Rattle.redo_live.specs.Lines.{names_after}
-use Rattle.redo_log.specs.Operations.{Operation, held_after, written_by, IsAlways}
+use Rattle.redo_log.specs.Operations.{Operation, HasNoFailure, StopsAtFailure, held_after, written_by, IsAlways}
 use Rattle.redo_talk.specs.Rounds.{Round, heard_in, said_in}
 use Rattle.redo_talk.specs.Talks.{Former, AreLines, BeginsBy, IsBegun, IsLoggedFirst, history_of, log_of, output_of}
 use Rattle.redo_talk.specs.Inside.Steps.{Known, AreSteps}
@@ -54,6 +54,7 @@ pub record IsUnderWay (start : Start) (now : Moment) (waiting : Waiting) (more :
     pub lines : AreLines (sent ++ kept)
     pub heard : Consumes start.left now.left (heard_in (sent ++ kept) ++ more)
     pub begins : BeginsBy start.bytes start.former now.done
+    pub fine : HasNoFailure now.done
     pub always : IsAlways (IsSafe start (sent ++ kept)) now.done
     pub log : (held_after now.done).all ≡ log_of start.former sent
     pub disk : cond start.sync (held_after now.done).synced (held_after now.done).all
@@ -71,4 +72,5 @@ pub record IsBrokenOff (start : Start) (now : Moment) : Type 0 where
   pub lines : AreLines rounds
   pub heard : Consumes start.left now.left (heard_in rounds ++ more)
   pub begins : BeginsBy start.bytes start.former now.done
+  pub stops : StopsAtFailure now.done
   pub always : IsAlways (IsSafe start rounds) now.done

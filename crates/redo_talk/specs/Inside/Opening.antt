@@ -1,11 +1,11 @@
 -- How a log is opened, and what was done then.
-use Rattle.std.specs.Prelude.{◌≡◌, ◌⊎◌, ℕ, Bool, false, List, [], ◌∷◌, ◌++◌, Option, length, take, ⊤}
+use Rattle.std.specs.Prelude.{◌≡◌, ◌⊎◌, ℕ, ◌≤◌, Bool, false, List, [], ◌∷◌, ◌++◌, Option, length, take, ⊤}
 use Rattle.redo_model.specs.Names.{Text}
 use Rattle.redo_model.specs.History.{Line}
 use Rattle.redo_live.specs.Lines.{lines_text_of}
 use Rattle.redo_live.specs.Inside.LiveState.{LiveState}
 use Rattle.redo_log.specs.Logs.{log_header, AreLogged}
-use Rattle.redo_log.specs.Operations.{Operation, Cut, Sync, Copy, LogFailed, IsPrefix, IsAlways}
+use Rattle.redo_log.specs.Operations.{Operation, Cut, Sync, Copy, LogFailed, IsPrefix, IsAlways, StopsAtFailure}
 use Rattle.redo_log.specs.Restores.{DiffersAt, HasTooMany, IsDamagedAfter}
 use Rattle.redo_log.specs.declared.devices.Unread.{Unread as NotRead}
 use Rattle.redo_log.specs.declared.devices.Unread.TheVariants as reads
@@ -47,7 +47,7 @@ pub record EndsAll (before : List (Line Text)) (live : LiveState) (logged logged
 abbrev pub IsRest : Rest → Text → Text → List (Line Text) → Type 0
 IsRest Nothing bytes kept lines = (kept ≡ bytes) × ¬ (IsDamagedAfter bytes lines)
 IsRest Torn bytes kept lines = ¬ (IsDamagedAfter bytes lines)
-IsRest Damaged bytes kept lines = ⊤
+IsRest Damaged bytes kept lines = IsDamagedAfter bytes lines
 
 -- these first bytes of a log are its header and the lines; or it has no header, and none are kept
 abbrev pub AreKept : Text → ℕ → List (Line Text) → Type 0
@@ -60,6 +60,7 @@ pub record IsKeptFrom (salvage : Bool) (bytes : Text) (kept : Kept) : Type 0 whe
   pub logged : AreLogged lines
   pub restored : AreRestored salvage bytes lines
   pub left : IsLeftBy kept.restored.live lines
+  pub within : kept.restored.bytes ≤ length bytes
   pub count : kept.restored.lines ≡ length lines
   pub are_kept : AreKept bytes kept.restored.bytes lines
   pub rest : IsRest kept.rest bytes (take kept.restored.bytes bytes) lines
@@ -70,6 +71,7 @@ pub record IsOpenedFrom (salvage : Bool) (version bytes : Text) (opened : Opened
   pub restored : AreRestored salvage bytes former.lines
   pub ended : AreEnded former
   pub left : IsLeftBy opened.live (history_of former)
+  pub within : opened.bytes ≤ length bytes
   pub lines : (former.lines ≡ [])
       ⊎ IsPrefix (log_header ++ lines_text_of former.lines) (take opened.bytes bytes)
   pub rest : IsRest opened.rest bytes (take opened.bytes bytes) former.lines
@@ -90,11 +92,12 @@ after_cut Nothing size done = done
 after_cut Torn size done = Cut size ∷ done
 after_cut Damaged size done = Sync ∷ Cut size ∷ Copy ∷ done
 
--- nothing was changed; or a damaged log was copied and cut, and not synced
-abbrev pub IsCutInPart : ℕ → List Operation → List Operation → Type 0
-IsCutInPart size done done_after =
-    (IsUnchanged done → IsUnchanged done_after)
-    ⊎ (done_after ≡ LogFailed ∷ Cut size ∷ Copy ∷ done)
+-- the first operation failed; or a damaged log was copied, and its cut failed, or the sync after that
+abbrev pub IsCutInPart : Rest → ℕ → List Operation → List Operation → Type 0
+IsCutInPart rest size done done_after =
+    (done_after ≡ LogFailed ∷ done) ⊎ ((rest ≡ Damaged)
+    × ((done_after ≡ LogFailed ∷ Copy ∷ done)
+    ⊎ (done_after ≡ LogFailed ∷ Cut size ∷ Copy ∷ done)))
 
 -- how the conversation of an opened log starts
 abbrev pub start_of : Bool → Text → Text → Former → Option Text → Start
@@ -118,6 +121,6 @@ module _ (sync : Bool) (salvage : Bool) (version bytes : Text) (opened : Opened)
   abbrev pub BeginsInPart : List Operation → Type 0
   BeginsInPart done =
       (is : IsOpenedFrom salvage version bytes opened) (left : Option Text)
-      → IsUnchanged done
-      ⊎ (BeginsBy bytes is.former done
+      → (IsUnchanged done × StopsAtFailure done)
+      ⊎ (BeginsBy bytes is.former done × StopsAtFailure done
       × IsAlways (IsSafe (start_of sync version bytes is.former left) []) done)

@@ -33,14 +33,14 @@ HasAnsweredAll start known left done =
     × IsUnderWay start (record { known = known; left = left; done = done }) nothing more
 
 module _ (start : Start) (known : Known) (left : Option Text) (done : List Operation) where
-  -- why it ended; `read_failed` says whether a read failed
-  abbrev pub IsTalkCause : Bool → ServeFault → Type 0
-  IsTalkCause read_failed Read = IsTrue read_failed × HasAnsweredAll start known left done
-  IsTalkCause read_failed TooLong = HasAnsweredAll start known left done
-  IsTalkCause read_failed (Log fault) =
+  -- why it ended
+  abbrev pub IsTalkCause : ServeFault → Type 0
+  IsTalkCause Read = HasAnsweredAll start known left done
+  IsTalkCause TooLong = HasAnsweredAll start known left done
+  IsTalkCause (Log fault) =
       IsTrue (log_failed done)
       × IsBrokenOff start (record { known = known; left = left; done = done })
-  IsTalkCause read_failed Write =
+  IsTalkCause Write =
       IsTrue (output_failed done)
       × IsBrokenOff start (record { known = known; left = left; done = done })
-  IsTalkCause read_failed fault = ⊥
+  IsTalkCause fault = ⊥

@@ -3,7 +3,7 @@ use Rattle.redo_log.specs.Operations.{Operation, Read, Append, Write, LogFailed,
 use Rattle.redo_talk.specs.Inside.Opening.{after_cut}
 use Rattle.redo_talk.specs.Inside.Sending.{after_logging}
 use Rattle.redo_talk.proofs.Outcomes.{on_err}
-use Rattle.redo_talk.proofs.OpeningMoments.{logged_then, begins_at, begins_to_cut, begins_to_append, begins_to_sync, begins_to_write}
+use Rattle.redo_talk.proofs.OpeningDone.{logged_then, begins_at, begins_to_cut, begins_to_append, begins_to_sync, begins_to_write}
 use Rattle.redo_talk.proofs.opening.begin.Goals as goal
 use Rattle.redo_talk.proofs.opening.begin.Goals.{then-sync+in_ok-settle, else-sync}
 

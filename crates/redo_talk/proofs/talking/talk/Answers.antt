@@ -37,14 +37,18 @@ returns-in_default-clause-cause g c = λ start same way.
     let left' = g.R.Read.remaining (inner_of c.read.new.self) in
     let done = g.D.Devices.history c.reads.devices in
     let logged = c.reads.unsent.logged.items in
-    let said = c.reads.unsent.said.items in (
-      ap (λ n. not (failures_of c.read.new.self == n)) (sym c.reads.invariant.failures)
-          ∙ c.in_default.ensures.noted,
-      answered_all start known left' done logged said begun c.reads.invariant.none_logged
-          c.reads.invariant.none_said prefix.unended
-          (kept_left start known left left' done logged said begun at
-          c.in_default.ensures.failed),
-    )
+    let said = c.reads.unsent.said.items in
+    answered_all start known left' done logged said begun c.reads.invariant.none_logged
+    c.reads.invariant.none_said prefix.unended
+    (kept_left start known left left' done logged said begun at c.in_default.ensures.failed)
+
+-- whether a read failed in this call
+pub returns-in_default-clause-read : goal.returns-in_default-clause-read
+returns-in_default-clause-read g c = (
+  λ same. ap (λ n. not (failures_of c.read.new.self == n)) (sym c.reads.invariant.failures)
+      ∙ c.in_default.ensures.noted,
+  λ failed. refl,
+)
 
 pub returns-then-count-eq0-clause-talk : goal.returns-then-count-eq0-clause-talk
 returns-then-count-eq0-clause-talk g c = λ start same way.
@@ -79,7 +83,7 @@ returns-in_err-answer_lines-clause-cause g c =
     let bytes = take c.in-Some.count c.read.new.buf in
     send_cause_talks start (known_of c.answer_lines.new.live) left'
     (g.D.Devices.history c.answer_lines.new.devices)
-    (has_failed c.args.input.now c.read.new.self) c.in_err-answer_lines.field-0.0
+    c.in_err-answer_lines.field-0.0
     c.in_err-answer_lines.ensures.cause
     (c.in_err-answer_lines.ensures.broken begun prefix start left' same
     (subst (λ t. TalksAt start left' place (begun ++ take c.in-Some.count t)) (sym again)

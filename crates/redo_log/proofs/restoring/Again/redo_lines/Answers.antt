@@ -29,8 +29,11 @@ returns-in_err-rest-clause-cause c =
     let (lines, is, counted) = c.lines.invariant in
     let p = err_from_is_err_and c.from_residual.result
     c.from_residual.ensures.1 in
+    let has : Contains c.lines.left.now 10 =
+    subst (λ (t : Text). Contains t 10) (sym c.in-Some.ensures.0)
+    (has_lf c.in-Some.text.now c.in-Some.field-0-1.now 10) in
     let cause = room_cause c.args.log.now c.lines.left.now lines c.lines.self.live
-    c.in_err-rest.field-0.0 is c.in_err-rest.ensures.room c.in_err-rest.ensures.worn in
+    c.in_err-rest.field-0.0 is has c.in_err-rest.ensures.room c.in_err-rest.ensures.worn in
     rw (p.1, p.2) cause
 
 pub overflow_add-result : goal.overflow_add-result
