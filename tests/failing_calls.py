@@ -81,12 +81,12 @@ class Runner:
         source = str(TOP / "tests/failing.c")
         subprocess.run(["cc", "-shared", "-fPIC", "-O1", "-o", self.library, source], check=True)
 
-    def put(self, text: str | None) -> None:
-        """The log is this text, or absent; and there is no copy."""
-        for file in (self.log, self.copy):
+    def put(self, *texts: str | None) -> None:
+        """The log and its copy are these texts, or absent."""
+        for file, text in zip((self.log, self.copy), texts, strict=True):
             file.unlink(missing_ok=True)
-        if text is not None:
-            self.log.write_bytes(text.encode("latin-1"))
+            if text is not None:
+                file.write_bytes(text.encode("latin-1"))
 
     def run(self, rounds: list[str], words: tuple[str, ...], *plans: Plan) -> Tried:
         """Talks with the program. Each round of lines is what one read gives."""

@@ -14,7 +14,8 @@ CAUSES = {
 }
 # what it says of something else
 OTHERS = {"write out": "write", "read in": "-: read"}
-# calls that also copy a damaged log
+# calls that open the copy of a damaged log, and those that also copy it
+OPENING_COPY = "create copy", "open copy"
 COPYING = ("read log", "open folder", "sync folder")
 
 
@@ -76,9 +77,10 @@ def cause_of(scenario: Scenario, failed: Call, earlier: list[Call], log: str) ->
         return None
     if call == "lock log" and failed.result == -errno.EAGAIN:
         return f"{log}: in use"
-    if call == "create copy":
+    if call in OPENING_COPY:
         return f"{log}.damaged: cannot open"
-    is_copying = has_passed(earlier, "create", "copy") and not has_passed(earlier, "cut", "log")
+    is_open = any(has_passed(earlier, *opening.split()) for opening in OPENING_COPY)
+    is_copying = is_open and not has_passed(earlier, "cut", "log")
     if failed.file == "copy" or is_copying and call in COPYING:
         return f"{log}.damaged: write"
     return OTHERS.get(call) or f"{log}: {CAUSES[call]}"

@@ -21,14 +21,17 @@ QUESTIONS = ["9 names\n" + "".join(f"9 state {name}\n" for name in NAMES)]
 CLOSED = "1 file c 1 => ok\n1 lock t => granted 1\n1 unlock t => ok\n2 gone c => ok\n"
 HELD = "1 file c 1 => ok\n2 lock t => granted 1\n2 start t => ok\n1 lock a.c => granted 1\n"
 OTHER = "2 gone c => refused self\n1 lock h => granted 1\n1 unlo"
+DAMAGED = HEADER + HELD + OTHER
 
 
 class Scenario(NamedTuple):
-    """A log at the start, None if there is none; the lines that are kept of it, and the words."""
+    """A log at the start, None if there is none; the lines that are kept of it, and the words. A
+    copy is there if a salvage was begun before."""
     name: str
     text: str | None
     kept: str
     words: tuple[str, ...] = ()
+    copy: str | None = None
 
     def is_synced(self) -> bool:
         return "--sync" in self.words
@@ -49,7 +52,9 @@ LOGS = [
     Scenario("a log with lines", HEADER + CLOSED, HEADER + CLOSED),
     Scenario("a torn line", HEADER + HELD + "2 done t 1 =", HEADER + HELD),
     Scenario("sessions left open", HEADER + HELD, HEADER + HELD),
-    Scenario("a damaged line", HEADER + HELD + OTHER, HEADER + HELD, ("--salvage",)),
+    Scenario("a damaged line", DAMAGED, HEADER + HELD, ("--salvage",)),
+    Scenario("a copy that was begun", DAMAGED, HEADER + HELD, ("--salvage",), DAMAGED[:50]),
+    Scenario("a copy that is whole", DAMAGED, HEADER + HELD, ("--salvage",), DAMAGED),
     Scenario("another file", "history 1\n1 ood => ood\n", "", ("--salvage",)),
 ]
 

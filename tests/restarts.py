@@ -100,10 +100,10 @@ class Restarts:
         return Outcome(lines, "".join(told[:number]), faults)
 
     def salvaged(self, image: Image, lines: str) -> tuple[str, ...]:
-        """What is wrong with a start with --salvage: it keeps these lines, and a copy. An older
-        copy is never replaced; so it is moved away."""
+        """What is wrong with a start with --salvage: it keeps these lines, and a copy. A file that
+        is no beginning of the log is never replaced; so it is moved away."""
         faults: tuple[str, ...] = ()
-        if image.copy is not None:
+        if image.copy is not None and not (image.log or b"").startswith(image.copy):
             wanted = fault(f"{self.copy}: is there already"), image
             faults = self.other("a copy is there", self.ended("--salvage"), *wanted)
             self.copy.unlink()

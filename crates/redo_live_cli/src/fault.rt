@@ -46,7 +46,7 @@ pub enum LogFault {
     Differs { line: usize },
     #[error(": worn")]
     Worn,
-    /// A damaged log was copied before.
+    /// Another file, or a copy of another log, has the name of the copy.
     #[error(".damaged: is there already")]
     IsCopied,
     #[error(".damaged: cannot open")]

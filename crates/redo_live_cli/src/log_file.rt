@@ -83,6 +83,7 @@ impl<'a> LogFile<'a> {
         let is_cut = file.set_len(size as u64).is_ok();
         if is_cut {
             self.length = size as u64;
+            self.synced = self.synced.min(self.length);
             self.is_changed = true;
         }
         is_cut
@@ -124,7 +125,7 @@ impl<'a> LogFile<'a> {
         }
     }
 
-    /// Copies all bytes to a new file beside it, which is on the disk then.
+    /// Copies all bytes to a file beside it, which is on the disk then, or goes on with a copy that was begun.
     pub fn copy(&self, rt: &HostRuntime) -> Result<(), LogFault> {
         match &self.file {
             Some(file) => copy_to(rt, &self.copy, file),

@@ -35,7 +35,7 @@ fn is_same(one: &Metadata, other: &Metadata) -> bool {
 }
 
 /// Opens a regular file that has no other name. A file that takes its place meanwhile isn't touched.
-fn open_found(rt: &HostRuntime, name: &str, how: &OpenOptions) -> Result<File, LogFault> {
+pub fn open_found(rt: &HostRuntime, name: &str, how: &OpenOptions) -> Result<File, LogFault> {
     let Ok(found) = fs::symlink_metadata(rt, name) else {
         return Err(LogFault::CannotOpen);
     };

@@ -15,7 +15,7 @@ pub data Operation : Type 0 where
   Sync : Operation
   -- a sync failed: the bytes of the log that had not been synced were cut off
   Revert : Operation
-  -- the log was copied, and the copy synced, under a name that no file had
+  -- the log was copied, and the copy synced, under another name; of a file that had it no byte was changed
   Copy : Operation
   -- these bytes were written to the output
   Write : Text → Operation

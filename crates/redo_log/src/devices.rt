@@ -18,7 +18,7 @@ pub enum LogFault {
     /// A write, a cut or a sync failed.
     #[error("a write failed")]
     Write,
-    /// A damaged log was copied before.
+    /// Another file has the name of the copy.
     #[error("is copied already")]
     IsCopied,
     #[error("the copy can't be opened")]
@@ -74,7 +74,8 @@ pub trait Devices {
         ensures err { OnErr result ((history self.new ≡ LogFailed ∷ history self.old)
             ⊎ (history self.new ≡ Revert ∷ history self.old)) };
 
-    /// Copies the log, and syncs the copy, under a name that no file has.
+    /// Copies the log, and syncs the copy, under another name. No byte of a file that has it is changed: this goes on
+    /// with a copy that was begun, or fails.
     fn copy(&mut self) -> Result<(), LogFault>
         ensures copied { OnOk result (history self.new ≡ Copy ∷ history self.old) }
         ensures err { OnErr result (history self.new ≡ LogFailed ∷ history self.old) };
