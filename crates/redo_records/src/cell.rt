@@ -65,6 +65,44 @@ impl Cell {
         }
     }
 
+    /// A name of which this is known.
+    pub fn known(
+        builds: u32,
+        state: State,
+        file: Option<FileStamp>,
+        done: Option<FileStamp>,
+        digest: Option<[u8; 20]>,
+    ) -> Cell
+        ensures { result ≡ record {
+          file = file;
+          state = target_state_of state;
+          builds = builds;
+          done = done;
+          digest = digest;
+        } }
+    {
+        Cell {
+            builds,
+            state: KeptState::of(state),
+            file,
+            done,
+            digest,
+        }
+    }
+
+    /// A name on which a change row gets this mark.
+    pub fn of_mark(mark: Mark) -> Cell
+        ensures { mark_in result.state result ≡ row_mark_of mark }
+    {
+        match mark {
+            Mark::Digest(digest) => Cell::known(0, State::Built, None, None, Some(digest)),
+            Mark::Builds(builds) => Cell::known(builds, State::Built, None, None, None),
+            Mark::Pending => Cell::known(0, State::Failed, None, None, None),
+            Mark::File(stamp) => Cell::known(0, State::Idle, Some(stamp), None, None),
+            Mark::Absent => Cell::idle(),
+        }
+    }
+
     pub fn file(&self) -> Option<FileStamp>
         ensures { result ≡ self.now.file }
     {

@@ -65,6 +65,18 @@ impl KeptState {
         }
     }
 
+    /// The state in a cell that means it.
+    pub fn of(state: State) -> KeptState
+        ensures { kept_state_of result ≡ target_state_of state }
+    {
+        match state {
+            State::Idle => KeptState::Idle,
+            State::Building(session) => KeptState::building(session),
+            State::Built => KeptState::Built,
+            State::Failed => KeptState::Failed,
+        }
+    }
+
     /// This session is building it.
     pub fn building(session: u16) -> KeptState
         ensures { kept_state_of result ≡ states.Building session }

@@ -121,6 +121,14 @@ impl Records {
         self.cells[t as usize].refusal(s, kind, holds)
     }
 
+    /// This is known of it.
+    pub fn set_cell(&mut self, n: u32, cell: Cell)
+        requires { n < length self.old }
+        ensures { self.new ≡ with_cell_at self.old n cell }
+    {
+        self.cells[n as usize] = cell;
+    }
+
     /// Its file has this stamp, or there is none.
     pub fn set_file(&mut self, n: u32, file: Option<FileStamp>)
         requires { n < length self.old }
