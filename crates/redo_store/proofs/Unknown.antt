@@ -9,7 +9,7 @@ use Rattle.redo_model.specs.State.{Mark, idle}
 use Rattle.redo_records.specs.Rows.{TargetRows, HasChangeRowOn, HasCreatedRowOn, bare, rows_count, rows_of, slot_at, target_at}
 use Rattle.redo_store.specs.Inside.Stored.{IsStored}
 use Rattle.redo_store.specs.Stored.{Stored, count_of, records_of}
-use Rattle.redo_store.specs.Tables.{Tables, state_of, tables_count}
+use Rattle.redo_store.specs.Tables.{Tables, locks_of, state_of, tables_count}
 use Rattle.redo_store.specs.Inside.Tables.{AreTables}
 
 -- only a number below the count has a file
@@ -34,6 +34,12 @@ unknown_past tables stored are n past =
       holder = get_or_past tables.holders n None
           (subst (λ k. k ≤ n) (sym are.holder_for_each) past);
     }
+
+-- and its lock was never granted
+pub ungranted_past : (tables : Tables) → AreTables tables → (n : ℕ) → tables_count tables ≤ n
+    → (locks_of tables).grants n ≡ 0
+ungranted_past tables are n past =
+    get_or_past tables.grants n 0 (subst (λ k. k ≤ n) (sym are.grants_for_each) past)
 
 none_there : (mark : Option Mark) → (is_some mark ≡ true → ⊥) → mark ≡ None
 none_there None off = refl

@@ -14,6 +14,8 @@ ghost use Rattle.redo_model.specs.State.{is_building, target_state};
 ghost use Rattle.redo_model.specs.Renaming.{AllBelow, IsBelow};
 ghost use Rattle.redo_ood.specs.Meaning.{why_of};
 ghost use Rattle.redo_records.specs.Meaning.{target_state_of};
+ghost use Rattle.redo_records.specs.Rows.{slot_at};
+ghost use Rattle.redo_records.specs.Target.{Ascending};
 ghost use Rattle.redo_model.specs.Names.{by_number};
 ghost use Rattle.redo_terms.specs.Meaning.{command_of, reply_of};
 ghost use Rattle.redo_store.specs.Meaning.{deps_of, users_of};
@@ -24,7 +26,7 @@ use crate::redo::Redo;
 use crate::store::lists::push_if;
 use crate::users::Users;
 use redo_ood::Why;
-use redo_records::{Cell, State};
+use redo_records::{Cell, Slot, State};
 use redo_terms::{Command, FileStamp, Reply};
 use std::alloc::{AllocError, Global};
 
@@ -105,12 +107,44 @@ impl Redo {
         self.holders[n as usize]
     }
 
+    /// How often its lock was granted.
+    pub fn grants(&self, n: u32) -> u32
+        ensures { result ≡ (locks_of self.now).grants n }
+    {
+        match self.grants.get(n as usize) {
+            Some(grants) => *grants,
+            None => 0,
+        }
+    }
+
+    /// The slots of the target, by their names' ascending numbers: each has the rows of the target on its name.
+    pub fn slots(&self, t: u32) -> &[Slot]
+        requires { t < tables_count self.now }
+        ensures change { (n : ℕ)
+            → (slot_at result.now n).change ≡ (tables_records self.now).rows.change t n }
+        ensures created { (n : ℕ)
+            → (slot_at result.now n).created ≡ (tables_records self.now).rows.created t n }
+        ensures ascending { Ascending result.now }
+    {
+        self.store.slots(t)
+    }
+
+    /// Whether the target has an always row.
+    pub fn always(&self, t: u32) -> bool
+        requires { t < tables_count self.now }
+        ensures { result ≡ (tables_records self.now).rows.always t }
+    {
+        self.store.always(t)
+    }
+
     /// How many numbers there are for names. Nothing is known of any other number.
     pub fn count(&self) -> u32
         ensures count { result ≡ tables_count self.now }
         ensures others { (n : ℕ) → tables_count self.now ≤ n → IsUnknown (state_of self.now) n }
         ensures unused { (n : ℕ) → tables_count self.now ≤ n
             → IsUnused (tables_records self.now) n }
+        ensures ungranted { (n : ℕ) → tables_count self.now ≤ n
+            → (locks_of self.now).grants n ≡ 0 }
     {
         self.store.uses_its_names();
         self.store.count()

@@ -12,6 +12,8 @@ ghost use Rattle.redo_model.specs.Renaming.{AllBelow};
 ghost use Rattle.redo_model.specs.State.{target_state};
 ghost use Rattle.redo_ood.specs.Meaning.{why_of};
 ghost use Rattle.redo_records.specs.Meaning.{target_state_of};
+ghost use Rattle.redo_records.specs.Rows.{slot_at};
+ghost use Rattle.redo_records.specs.Target.{Ascending};
 ghost use Rattle.redo_store.specs.Meaning.{deps_of, users_of};
 ghost use Rattle.redo_store.specs.Stored.{count_of, records_of};
 
@@ -20,7 +22,7 @@ use crate::store::Store;
 use crate::store::lists::push_if;
 use crate::users::{Users, numbers_at};
 use redo_ood::Why;
-use redo_records::{Cell, State};
+use redo_records::{Cell, Slot, State};
 use redo_terms::FileStamp;
 use std::alloc::{AllocError, Global};
 
@@ -96,6 +98,26 @@ impl Store {
         ensures { result ≡ ((records_of self.now).cell n).file }
     {
         self.records.file(n)
+    }
+
+    /// The slots of the target, by their names' ascending numbers: each has the rows of the target on its name.
+    pub fn slots(&self, t: u32) -> &[Slot]
+        requires { t < count_of self.now }
+        ensures change { (n : ℕ)
+            → (slot_at result.now n).change ≡ (records_of self.now).rows.change t n }
+        ensures created { (n : ℕ)
+            → (slot_at result.now n).created ≡ (records_of self.now).rows.created t n }
+        ensures ascending { Ascending result.now }
+    {
+        self.rows.slots_of(t)
+    }
+
+    /// Whether the target has an always row.
+    pub fn always(&self, t: u32) -> bool
+        requires { t < count_of self.now }
+        ensures { result ≡ (records_of self.now).rows.always t }
+    {
+        self.rows.always(t)
     }
 
     /// The names on which the target has a change row.

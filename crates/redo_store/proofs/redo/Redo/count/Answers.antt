@@ -1,9 +1,9 @@
-use Rattle.std.proofs.Common.{ℕ, ◌≤◌, subst}
+use Rattle.std.proofs.Common.{◌≡◌, ℕ, ◌≤◌, subst}
 use Rattle.redo_model.specs.Inside.Unknown.{IsUnknown}
 use Rattle.redo_model.specs.Inside.Users.{IsUnused}
 use Rattle.redo_store.specs.Inside.Kept.{tables_of}
-use Rattle.redo_store.specs.Tables.{Tables, state_of, tables_count, tables_records}
-use Rattle.redo_store.proofs.Unknown.{unknown_past}
+use Rattle.redo_store.specs.Tables.{Tables, locks_of, state_of, tables_count, tables_records}
+use Rattle.redo_store.proofs.Unknown.{ungranted_past, unknown_past}
 use Rattle.redo_store.proofs.redo.Redo.count.Goals as goal
 
 pub returns-clause-others : goal.returns-clause-others
@@ -16,3 +16,8 @@ pub returns-clause-unused : goal.returns-clause-unused
 returns-clause-unused c =
     subst (λ (tables : Tables). (n : ℕ) → tables_count tables ≤ n
     → IsUnused (tables_records tables) n) c.self.view_is c.uses_its_names.ensures
+
+pub returns-clause-ungranted : goal.returns-clause-ungranted
+returns-clause-ungranted c =
+    subst (λ (tables : Tables). (n : ℕ) → tables_count tables ≤ n → (locks_of tables).grants n ≡ 0)
+    c.self.view_is (ungranted_past (tables_of c.self.inside) c.self.invariant.tables)
