@@ -19,7 +19,7 @@ use Rattle.redo_store.specs.Tables.{Tables, tables_records, locks_of, state_of}
 use Rattle.redo_store.specs.Inside.Tables.{tables_naming}
 
 -- what is true at every place still is after a write that keeps it
-each_set : {X : Type 0} (P : X → Type 0) (xs : List X) (i : ℕ) (x d : X)
+pub each_set : {X : Type 0} (P : X → Type 0) (xs : List X) (i : ℕ) (x d : X)
     → ((k : ℕ) → P (get_or xs k d)) → P x → (k : ℕ) → P (get_or (set xs i x) k d)
 each_set P [] i x d all here k = all k
 each_set P (y ∷ ys) zero x d all here zero = here

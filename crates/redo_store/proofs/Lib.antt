@@ -1,5 +1,7 @@
 pub mod Blank
 pub mod Kept
+pub mod Loaded
+pub mod Made
 pub mod Effects
 pub mod Refreshing
 pub mod Rooms

@@ -3,3 +3,4 @@ pub mod Stored
 pub mod Tables
 pub mod Kept
 pub mod KeptStore
+pub mod Parts

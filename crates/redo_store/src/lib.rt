@@ -8,6 +8,6 @@ mod table;
 mod users;
 
 pub use deps::Deps;
-pub use redo::Redo;
+pub use redo::{Loading, Redo};
 pub use store::Store;
 pub use users::Users;

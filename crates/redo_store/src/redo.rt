@@ -14,9 +14,12 @@ use redo_terms::{Command, Reply};
 use std::alloc::{AllocError, Global};
 use std::marker::Model;
 
+mod loading;
 mod questions;
 mod spare;
 mod steps;
+
+pub use loading::Loading;
 
 /// The database with its locks, for one thread. Names are numbers below the number of names it was made for.
 #[derive(Drop)]

@@ -21,6 +21,7 @@ use std::marker::Model;
 
 mod changes;
 pub(crate) mod lists;
+mod loaded;
 mod questions;
 mod refusals;
 mod room;
