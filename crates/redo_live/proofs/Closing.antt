@@ -9,25 +9,25 @@ use Rattle.std.proofs.lemmas.List.{map-append}
 use Rattle.std.proofs.lemmas.List.Elements.{Contains-append_cases}
 use Rattle.redo_names.specs.Inside.Names.{AreNames}
 use Rattle.redo_model.specs.Names.{Text, numbers, texts, text_at}
-use Rattle.redo_model.specs.State.{State, is_building, target_state, empty}
+use Rattle.redo_model.specs.State.{State, is_building, target_state}
 use Rattle.redo_model.specs.Command.{Unlock, Failed}
 use Rattle.redo_model.specs.Step.{after, is_held_by}
-use Rattle.redo_model.specs.History.{Line, Legal, LegalFrom, left_by}
+use Rattle.redo_model.specs.History.{Line, LegalFrom, left_by}
 use Rattle.redo_model.specs.Renaming.{AllBelow, IsBelow, IsLineBelow, named_line}
 use Rattle.redo_model.specs.Inside.Ending.{AreHeld, okay_line, letting_lines, closing_lines_of, holder_without, state_without}
 use Rattle.redo_model.specs.Inside.Renaming.{named_state, numbering}
-use Rattle.redo_model.proofs.Ending.{closes_by_state, leaves_without}
+use Rattle.redo_model.proofs.Ending.{ends_from}
+use Rattle.redo_model.proofs.Held.{BuildersHold, builders_hold}
 use Rattle.redo_model.proofs.HistoriesByName.{legal_from_by_name, left_by_name}
-use Rattle.redo_model.proofs.OneMore.{left_by-append}
 use Rattle.redo_model.proofs.RecordsByName.{state_at_name, value_at_name}
 use Rattle.redo_model.proofs.Texts.{texts_are_names}
 use Rattle.redo_terms.specs.Meaning.{by_text}
 use Rattle.redo_live.specs.Inside.ClosingLines.{letting}
 use Rattle.redo_live.specs.Inside.Within.{IsStateWithin}
-use Rattle.redo_live.specs.Inside.Kept.{IsKept, IsReached}
+use Rattle.redo_live.specs.Inside.Kept.{IsKept}
 use Rattle.redo_live.proofs.Answering.{renaming, alike}
 use Rattle.redo_live.proofs.Keeping.{taken_below}
-use Rattle.redo_live.proofs.Lines.{all_both, distinct_both, legal_rest}
+use Rattle.redo_live.proofs.Lines.{all_both, distinct_both}
 use Rattle.redo_live.proofs.Within.{IsStateWithin-after}
 
 -- closing lines are the same in any order of names
@@ -132,45 +132,25 @@ module _ (names : List Text) (are : AreNames names) (st : State ℕ) (s : ℕ) w
       (closing_by_name ts below.1)
 
   module _ (within : IsStateWithin (length names) st)
-      (reached : IsReached (named_state (numbering names) st)) (ts : List ℕ)
+      (builders : BuildersHold (named_state (numbering names) st)) (ts : List ℕ)
       (below : AllBelow (length names) ts)
       (held : AreHeld texts s (named_state (numbering names) st) (map (text_at names) ts))
     where
       abbrev closed : State Text → List (Line Text)
       closed at = closing_lines_of s at (map (text_at names) ts)
 
-      legal_after : Legal texts (reached.lines ++ closed (left_by texts empty reached.lines))
-      legal_after =
-          (closes_by_state texts_are_names nat_list_cmp_total s reached.lines
-          (map (text_at names) ts) reached.legal
-          (subst (λ (at : State Text). AreHeld texts s at (map (text_at names) ts)) reached.left
-          held)).1
-
       legal_texts : LegalFrom texts here (closed here)
       legal_texts =
-          subst (λ (at : State Text). LegalFrom texts at (closed at)) (sym reached.left)
-          (legal_rest texts empty reached.lines (closed (left_by texts empty reached.lines))
-          legal_after)
+          (ends_from texts_are_names nat_list_cmp_total s here (map (text_at names) ts) builders
+          held).legal
 
       without : left_by texts here (closed here) ≡ state_without s here
       without =
-          subst (λ (at : State Text). left_by texts at (closed at) ≡ state_without s at)
-          (sym reached.left)
-          (sym (left_by-append texts empty reached.lines
-          (closed (left_by texts empty reached.lines)))
-          ∙ leaves_without texts_are_names nat_list_cmp_total s reached.lines
-          (map (text_at names) ts)
-          (subst (λ (at : State Text). AreHeld texts s at (map (text_at names) ts)) reached.left
-          held))
+          (ends_from texts_are_names nat_list_cmp_total s here (map (text_at names) ts) builders
+          held).left
 
-      reached_then : IsReached (left_by texts here (closed here))
-      reached_then = record {
-        lines = reached.lines ++ closed (left_by texts empty reached.lines);
-        legal = legal_after;
-        left = ap (λ (at : State Text). left_by texts at (closed at)) reached.left
-            ∙ sym (left_by-append texts empty reached.lines
-            (closed (left_by texts empty reached.lines)));
-      }
+      builders_then : BuildersHold (left_by texts here (closed here))
+      builders_then = builders_hold texts_are_names here (closed here) builders
 
       pub lines_below : AllByRecursion (IsLineBelow (length names)) (closing_lines_of s st ts)
       lines_below =
@@ -234,7 +214,7 @@ module _ (names : List Text) (are : AreNames names) (st : State ℕ) (s : ℕ) w
                 → IsKept names next (calls + length (closing_lines_of s st ts))
             kept_then calls kept once mine = record {
               within = within_then;
-              reached = subst IsReached (sym named_left) reached_then;
+              builders = subst BuildersHold (sym named_left) builders_then;
               closing = λ us apart taken.
                   let both = kept.closing (us ++ ts)
                   (distinct_both us ts apart once

@@ -15,17 +15,15 @@ use Rattle.std.proofs.lemmas.List.Sorted.{Contains-permutation, IsPermutation-sy
 use Rattle.std.proofs.lemmas.Simd.{map-map}
 use Rattle.redo_names.specs.Inside.Names.{AreNames}
 use Rattle.redo_model.specs.Names.{Text, texts, text_at}
-use Rattle.redo_model.specs.State.{State, Building, empty, target_state}
+use Rattle.redo_model.specs.State.{State}
 use Rattle.redo_model.specs.Reply as replies
 use Rattle.redo_model.specs.History.{LegalFrom, left_by}
 use Rattle.redo_model.specs.History as histories
 use Rattle.redo_model.specs.Renaming.{AllBelow, IsBelow, IsLineBelow, named_line}
 use Rattle.redo_model.specs.Inside.Ending.{AreHeld, closing_lines_of}
 use Rattle.redo_model.specs.Inside.Renaming.{named_state, numbering, value_at}
-use Rattle.redo_model.proofs.Held.{BuildersHold, builders_hold, builders_hold_at_first}
 use Rattle.redo_model.proofs.RecordsByName.{value_at_name}
 use Rattle.redo_model.proofs.RepliesByName.{Carries, listing}
-use Rattle.redo_model.proofs.Texts.{texts_are_names}
 use Rattle.redo_terms.specs.Meaning.{by_text, command_of, line_of, line_at}
 use Rattle.redo_terms.specs.declared.reply.Line.{Line}
 use Rattle.redo_store.specs.Tables.{Tables, state_of, tables_count, tables_order, calls_of}
@@ -34,7 +32,7 @@ use Rattle.redo_history.specs.Histories.{line_text_of}
 use Rattle.redo_history.specs.Recorded.{AreLinesBelow}
 use Rattle.redo_live.specs.Inside.Ended.{end_text}
 use Rattle.redo_live.specs.Inside.ClosingLines.{AreClosing, TakesNoRoom}
-use Rattle.redo_live.specs.Inside.Kept.{IsKept, IsReached}
+use Rattle.redo_live.specs.Inside.Kept.{IsKept}
 use Rattle.redo_live.specs.Inside.Ordered.{AreSortedAgain}
 use Rattle.redo_live.specs.Inside.Told.{EndsSession}
 use Rattle.redo_live.specs.Inside.Withheld.{WouldEnd}
@@ -81,16 +79,6 @@ module _ (names : List Text) (are : AreNames names) (st : State ℕ)
       λ h. (let number = numbered_by st.locks.holder s ((numbering names).number h.0) h.1 in
           (number.0, sym (ap (value_at None st.locks.holder) number.1) ∙ h.1)),
     )
-
-    -- what it builds, it holds
-    pub builder_holds : IsReached (named_state (numbering names) st) → (t : Text)
-        → target_state (named_state (numbering names) st).records t ≡ Building s
-        → (named_state (numbering names) st).locks.holder t ≡ Some s
-    builder_holds reached t is =
-        let hold : BuildersHold (named_state (numbering names) st) =
-        subst BuildersHold (sym reached.left)
-        (builders_hold texts_are_names empty reached.lines builders_hold_at_first) in
-        hold.held t s is
 
     -- the numbers of what a session holds, put into the order of their texts
     pub held_sorted : (ns ms : List ℕ) → IsStrictlyIncreasing ns
@@ -178,7 +166,7 @@ module _ (names : List Text) (are : AreNames names) (tables : Tables)
     pub told_below : AreLinesBelow names lines
     told_below =
         each (IsLineBelow (length names))
-        (lines_below names are (state_of tables) session kept.within kept.reached closing.targets
+        (lines_below names are (state_of tables) session kept.within kept.builders closing.targets
         below_names held_texts)
 
     same_length : length lines ≡ length (closing_lines_of session (state_of tables) closing.targets)
@@ -197,7 +185,7 @@ module _ (names : List Text) (are : AreNames names) (tables : Tables)
     pub close_legal : LegalFrom (tables_naming tables) (state_of tables) (map line_of lines)
     close_legal =
         subst (LegalFrom (tables_naming tables) (state_of tables)) (sym closing.lines_are)
-        (legal_numbers names are (state_of tables) session kept.within kept.reached
+        (legal_numbers names are (state_of tables) session kept.within kept.builders
         closing.targets below_names held_texts (tables_order tables))
 
     named_lines : map (line_at names) lines
@@ -235,7 +223,7 @@ module _ (names : List Text) (are : AreNames names) (tables : Tables)
         kept_end =
             subst (IsKept names (state_of next))
             (sym (counted ∙ ap (λ (n : ℕ). calls_of tables + n) same_length))
-            (kept_then names are (state_of tables) session kept.within kept.reached
+            (kept_then names are (state_of tables) session kept.within kept.builders
             closing.targets below_names held_texts (tables_order tables) (state_of next)
             left_closing (calls_of tables) kept once mine)
 
@@ -253,7 +241,7 @@ module _ (names : List Text) (are : AreNames names) (tables : Tables)
                 held = held_texts;
                 lines_are = named_lines;
                 left = ap (named_state (numbering names)) left_closing
-                    ∙ left_texts names are (state_of tables) session kept.within kept.reached
+                    ∙ left_texts names are (state_of tables) session kept.within kept.builders
                     closing.targets below_names held_texts (tables_order tables)
                     ∙ ap (left_by texts (named_state (numbering names) (state_of tables)))
                     (sym named_lines);

@@ -1,5 +1,5 @@
 -- New names and steps keep the database's invariant.
-use Rattle.std.proofs.Common.{◌≡◌, ◌+◌, ◌*◌, ◌^◌, ℕ, ◌<◌, ◌≤◌, true, List, [], ◌∷◌, ◌++◌, Option, None, is_some, sym, ap, ◌∙◌, subst, inl, inr, length, arith}
+use Rattle.std.proofs.Common.{◌≡◌, ◌+◌, ◌*◌, ◌^◌, ℕ, ◌<◌, ◌≤◌, true, List, [], ◌∷◌, Option, Some, None, is_some, sym, ap, ◌∙◌, subst, inl, inr, length, arith}
 use Rattle.std.specs.Prelude.{nat_eq}
 use Rattle.std.specs.List.{IsDistinct}
 use Rattle.std.specs.declared.cmp.Ordering.{Ordering}
@@ -8,20 +8,21 @@ use Rattle.std.proofs.lemmas.Map.Steps.{length-le_from_distinct_below}
 use Rattle.std.proofs.lemmas.Map.Views.{Contains-from_any}
 use Rattle.redo_names.specs.Inside.Names.{AreNames, Extends}
 use Rattle.redo_model.specs.Names.{Text, numbers, texts, text_at}
-use Rattle.redo_model.specs.State.{State, Locks, empty}
+use Rattle.redo_model.specs.State.{State, Locks, Mark, Building, empty, idle, target_state}
 use Rattle.redo_model.specs.Command.{Command}
 use Rattle.redo_model.specs.Reply.{Reply}
 use Rattle.redo_model.specs.Step.{Answers, after}
-use Rattle.redo_model.specs.History.{Line}
 use Rattle.redo_model.specs.Renaming.{IsBelow, named_command}
-use Rattle.redo_model.specs.Inside.Renaming.{named_state, numbering}
+use Rattle.redo_model.specs.Inside.Renaming.{named_state, numbering, value_at}
+use Rattle.redo_model.specs.Inside.Unknown.{IsUnknown}
+use Rattle.redo_model.specs.Inside.Users.{IsUnused}
+use Rattle.redo_model.proofs.Held.{BuildersHold, builders_hold_after, builders_hold_at_first}
 use Rattle.redo_model.proofs.HistoriesByName.{empty_by_name}
 use Rattle.redo_model.proofs.Members.{contains_first}
-use Rattle.redo_model.proofs.OneMore.{left_by-append, legal_more}
 use Rattle.redo_model.proofs.StepsByName.{after_by_name}
 use Rattle.redo_model.proofs.Texts.{texts_are_names}
 use Rattle.redo_live.specs.Inside.Within.{IsStateWithin}
-use Rattle.redo_live.specs.Inside.Kept.{AreTaken, IsKept, IsReached}
+use Rattle.redo_live.specs.Inside.Kept.{AreTaken, IsKept}
 use Rattle.redo_live.proofs.Within.{IsStateWithin-empty, IsStateWithin-after}
 use Rattle.redo_live.proofs.Answering.{renaming, state_kept, within_kept}
 
@@ -32,7 +33,7 @@ none_taken (t ∷ ts) taken = absurd (false≢true (taken t (contains_first t ts
 pub IsKept-empty : (names : List Text) → IsKept names empty 0
 IsKept-empty names = record {
   within = IsStateWithin-empty (length names);
-  reached = record { lines = []; legal = tt; left = empty_by_name (numbering names) };
+  builders = subst BuildersHold (sym (empty_by_name (numbering names))) builders_hold_at_first;
   closing = λ ts once taken. none_taken ts taken;
 }
 
@@ -55,22 +56,9 @@ pub IsKept-Extends : (old new : List Text) → AreNames old → AreNames new →
     → (st : State ℕ) (calls : ℕ) → IsKept old st calls → IsKept new st calls
 IsKept-Extends old new old_are new_are grows st calls kept = record {
   within = within_kept old new old_are new_are grows st kept.within;
-  reached = subst IsReached (sym (state_kept old new old_are new_are grows st kept.within))
-      kept.reached;
+  builders = subst BuildersHold (sym (state_kept old new old_are new_are grows st kept.within))
+      kept.builders;
   closing = kept.closing;
-}
-
--- an answered line extends a history
-pub IsReached-after : (st : State Text) (line : Line Text) → IsReached st
-    → Answers texts st line.session line.command line.reply
-    → IsReached (after texts st line.session line.command)
-IsReached-after st line reached answers = record {
-  lines = reached.lines ++ line ∷ [];
-  legal = legal_more texts empty reached.lines line reached.legal
-      (subst (λ (at : State Text). Answers texts at line.session line.command line.reply)
-      reached.left answers);
-  left = ap (λ (at : State Text). after texts at line.session line.command) reached.left
-      ∙ sym (left_by-append texts empty reached.lines (line ∷ []));
 }
 
 module _ (names : List Text) (are : AreNames names) (order : ℕ → ℕ → Ordering) (st : State ℕ)
@@ -83,16 +71,15 @@ module _ (names : List Text) (are : AreNames names) (order : ℕ → ℕ → Ord
         → IsKept names (after (numbers order) st s command) (calls + 1)
     IsKept-after left below kept answers =
         let next = after (numbers order) st s command in
-        let line : Line Text =
-        record { session = s; command = named_command (text_at names) command; reply = reply } in
         let within : IsStateWithin (length names) next =
         IsStateWithin-after (length names) order st s command kept.within below in
         record {
           within = within;
-          reached = subst IsReached
+          builders = subst BuildersHold
               (sym (after_by_name (renaming names are) texts texts_are_names order st s command
               below))
-              (IsReached-after (named_state (numbering names) st) line kept.reached answers);
+              (builders_hold_after texts_are_names (named_state (numbering names) st) s
+              (named_command (text_at names) command) kept.builders);
           closing = λ ts once taken.
               omega (
                 arith,
@@ -100,3 +87,56 @@ module _ (names : List Text) (are : AreNames names) (order : ℕ → ℕ → Ord
                 few_taken (length names) next.locks ts within.holder once taken,
               );
         }
+
+-- a builder holds its target, and so does that of the target's name
+builder_at : (st : State ℕ) (at : Option ℕ)
+    → ((t s : ℕ) → target_state st.records t ≡ Building s → st.locks.holder t ≡ Some s) → (s : ℕ)
+    → (value_at idle st.records.cell at).state ≡ Building s
+    → value_at None st.locks.holder at ≡ Some s
+builder_at st None builders s is = absurd (cc)
+builder_at st (Some t) builders s is = builders t s is
+
+-- a state over the numbers of names, in which builders hold
+module _ (names : List Text) (st : State ℕ)
+    (unknown : (n : ℕ) → length names ≤ n → IsUnknown st n)
+    (unused : (n : ℕ) → length names ≤ n → IsUnused st.records n)
+    (ungranted : (n : ℕ) → length names ≤ n → st.locks.grants n ≡ 0)
+  where
+    below : (n : ℕ) → (length names ≤ n → ⊥) → n < length names
+    below n not_past = elim (cases_lt n (length names)) [
+      | inl less ↦ less
+      | inr past ↦ absurd (not_past past)
+    ]
+
+    loaded_within : IsStateWithin (length names) st
+    loaded_within = record {
+      records = record {
+        cells = λ k past. (unknown k past).cell;
+        changes = λ k m row. (
+          below k (λ past. false≢true
+              (sym (ap (λ (o : Option Mark). is_some o) ((unknown k past).change m)) ∙ row)),
+          below m (λ past. false≢true
+              (sym (ap (λ (o : Option Mark). is_some o) ((unused m past).change k)) ∙ row)),
+        );
+        createds = λ k m row. (
+          below k (λ past. false≢true (sym ((unknown k past).created m) ∙ row)),
+          below m (λ past. false≢true (sym ((unused m past).created k) ∙ row)),
+        );
+      };
+      always = λ k past. (unknown k past).always;
+      holder = λ k past. (unknown k past).holder;
+      grants = ungranted;
+    }
+
+    pub IsKept-loaded : (calls : ℕ)
+        → ((t s : ℕ) → target_state st.records t ≡ Building s → st.locks.holder t ≡ Some s)
+        → calls + 2 * length names < 2 ^ 32 → IsKept names st calls
+    IsKept-loaded calls builders left = record {
+      within = loaded_within;
+      builders = record {
+        held = λ t s is. builder_at st ((numbering names).number t) builders s is;
+      };
+      closing = λ ts once taken.
+          let few = few_taken (length names) st.locks ts loaded_within.holder once taken in
+          omega (arith, left, few);
+    }

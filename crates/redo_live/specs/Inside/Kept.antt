@@ -1,10 +1,10 @@
 -- The value of the database's fields, and their invariant.
 use Rattle.std.specs.Prelude.{◌≡◌, ℕ, ◌+◌, ◌*◌, ◌^◌, ◌≤◌, ◌<◌, List, IsSome, Contains, length, nat_eq}
 use Rattle.std.specs.List.{IsDistinct}
-use Rattle.redo_model.specs.Names.{Text, texts}
-use Rattle.redo_model.specs.State.{State, Locks, empty}
-use Rattle.redo_model.specs.History.{Line, Legal, left_by}
+use Rattle.redo_model.specs.Names.{Text}
+use Rattle.redo_model.specs.State.{State, Locks}
 use Rattle.redo_model.specs.Inside.Renaming.{named_state, numbering}
+use Rattle.redo_model.proofs.Held.{BuildersHold}
 use Rattle.redo_store.specs.Tables.{state_of, tables_count, calls_of}
 use Rattle.redo_live.specs.Inside.LiveState.{LiveState}
 use Rattle.redo_live.specs.Inside.Within.{IsStateWithin}
@@ -13,21 +13,15 @@ use Rattle.redo_live.specs.declared.live.Live.TheInside.{Inside}
 abbrev pub live_of : Inside → LiveState
 live_of inside = record { names = inside.names; tables = inside.redo }
 
--- a legal history leaves the state
-pub record IsReached (st : State Text) : Type 0 where
-  pub lines : List (Line Text)
-  pub legal : Legal texts lines
-  pub left : st ≡ left_by texts empty lines
-
 -- somebody holds each of these
 abbrev pub AreTaken : Locks ℕ → List ℕ → Type 0
 AreTaken locks ts = (t : ℕ) → Contains ts t → IsSome (locks.holder t)
 
--- after this many calls a legal history leaves this state over these names; nothing is known of
--- other numbers, and two more calls are left for each held target
+-- after this many calls this is the state over these names: nothing is known of other numbers,
+-- builders hold their targets, and two more calls are left for each held target
 pub record IsKept (names : List Text) (st : State ℕ) (calls : ℕ) : Type 0 where
   pub within : IsStateWithin (length names) st
-  pub reached : IsReached (named_state (numbering names) st)
+  pub builders : BuildersHold (named_state (numbering names) st)
   pub closing : (ts : List ℕ) → IsDistinct nat_eq ts → AreTaken st.locks ts
       → calls + 2 * length ts < 2 ^ 32
 

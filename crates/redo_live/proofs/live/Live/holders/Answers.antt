@@ -4,7 +4,7 @@ use Rattle.redo_model.specs.Names.{Text}
 use Rattle.redo_model.specs.State.{Building, target_state}
 use Rattle.redo_store.specs.Tables.{state_of}
 use Rattle.redo_live.specs.Inside.LiveState.{LiveState, state_in}
-use Rattle.redo_live.proofs.Ending.{builder_holds, held_named}
+use Rattle.redo_live.proofs.Ending.{held_named}
 use Rattle.redo_live.proofs.live.Live.holders.Goals as goal
 use Rattle.redo_live.proofs.live.Live.holders.Goals.{In_ok-sessions}
 
@@ -28,6 +28,5 @@ returns-clause-builders c = λ t s is.
       t,
       subst (λ (live : LiveState). target_state (state_in live).records t
           ≡ Building s → (state_in live).locks.holder t ≡ Some s) c.self.view_is
-          (builder_holds c.self.inside.names c.are_names.ensures (state_of c.self.inside.redo)
-          c.self.invariant.state.within s c.self.invariant.state.reached t) is,
+          (c.self.invariant.state.builders.held t s) is,
     )
