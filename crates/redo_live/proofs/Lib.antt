@@ -13,4 +13,5 @@ pub mod Closing
 pub mod Ending
 pub mod EndingAll
 pub mod OneAnswer
+pub mod Parts
 pub mod Forms

@@ -24,6 +24,7 @@ use std::mem;
 mod asking;
 mod ending;
 mod listing;
+mod parts;
 mod replaying;
 
 /// How many numbers there are for names at first.

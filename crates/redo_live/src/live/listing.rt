@@ -12,7 +12,6 @@ use crate::fault::Withheld;
 use crate::known::put_cell;
 use crate::live::Live;
 use redo_history::put_number;
-use redo_records::Cell;
 use redo_text::put_word;
 use std::alloc::{AllocError, Global};
 
@@ -77,18 +76,5 @@ impl Live {
     {
         let cell = self.cell(n);
         put_cell(line, self.names.text(n), &cell)
-    }
-
-    /// The cell of the name with this number.
-    fn cell(&self, n: u32) -> Cell
-        requires { n < length self.now.names }
-        ensures { result ≡ (state_in self.now).records.cell (text_at self.now.names n) }
-    {
-        self.names.are_names();
-        if n < self.redo.count() {
-            *self.redo.cell(n)
-        } else {
-            Cell::idle()
-        }
     }
 }
