@@ -4,5 +4,7 @@ pub mod DumpMarks
 pub mod DumpWords
 pub mod OneDump
 pub mod Pieces
+pub mod SlotWords
+pub mod StateOver
 pub mod WorkedDumps
 pub mod WorkedStates

@@ -1,2 +1,3 @@
 pub mod Dumps
+pub mod Inside
 pub mod Worked

@@ -1,6 +1,8 @@
-//! Tests of conversations and of logs.
+//! Tests of conversations, of logs and of dumps.
 #![tactic(auto)]
 
+#[cfg(test)]
+mod dumps;
 #[cfg(test)]
 mod log;
 #[cfg(test)]

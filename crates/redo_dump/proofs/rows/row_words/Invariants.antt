@@ -1,0 +1,17 @@
+use Rattle.std.proofs.Common.{◌≡◌, ℕ, ◌<◌, IfSome, get_or, take}
+use Rattle.std.specs.List.{flat_map}
+use Rattle.redo_records.specs.Inside.Target.{blank}
+use Rattle.redo_text.specs.Texts.{after_space}
+use Rattle.redo_live.specs.Inside.LiveState.{state_in}
+use Rattle.redo_dump.specs.Dumps.{HasMarkForm}
+use Rattle.redo_dump.specs.Inside.Slots.{slot_words}
+use Rattle.redo_dump.proofs.rows.row_words.Given as goal
+
+abbrev pub invariant-loop-slot : goal.invariant-loop-slot
+invariant-loop-slot l = record {
+  text : l.words.items
+      ≡ flat_map after_space
+      (flat_map (slot_words l.live.names (state_in l.live)) (take l.slot-index l.slot-items));
+  forms : (k : ℕ) → k < l.slot-index
+      → IfSome (get_or l.slot-items k (blank 0)).change HasMarkForm;
+}
