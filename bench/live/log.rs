@@ -1,8 +1,9 @@
 // The log: a file of the lines that changed something.
 use crate::database::{Answers, Database, MOST_SESSIONS};
+use crate::copying::copy_to;
 use crate::opening::{open, open_again, sync_folder};
 use crate::say;
-use std::fs::{File, OpenOptions};
+use std::fs::File;
 use std::io::{self, BufRead, BufReader, Read, Seek, Write};
 use std::os::unix::fs::FileExt;
 
@@ -86,17 +87,9 @@ impl Log {
         Ok(Log { name: name.to_string(), file, is_synced, written: 0, synced: 0 })
     }
 
-    fn copy_to_damaged(&mut self) -> Result<(), String> {
+    fn copy_to_damaged(&self) -> Result<(), String> {
         let name = format!("{}.damaged", self.name);
-        let opened = OpenOptions::new().write(true).create_new(true).open(&name);
-        let mut copy = opened.map_err(|error| match error.kind() {
-            io::ErrorKind::AlreadyExists => format!("{name}: is there already"),
-            _ => format!("{name}: cannot open"),
-        })?;
-        self.file.rewind().map_err(|_| self.read_fault())?;
-        io::copy(&mut self.file, &mut copy).map_err(|_| format!("{name}: write"))?;
-        let synced = copy.sync_data().and_then(|()| sync_folder(&name));
-        synced.map_err(|_| format!("{name}: write"))
+        copy_to(&name, &self.file).map_err(|cause| format!("{name}: {cause}"))
     }
 
     fn read_fault(&self) -> String {

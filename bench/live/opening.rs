@@ -27,7 +27,7 @@ fn is_same(one: &Metadata, other: &Metadata) -> bool {
 }
 
 // A file that takes the place of the one that was found isn't touched.
-fn open_found(name: &str, how: &OpenOptions) -> Result<File, &'static str> {
+pub fn open_found(name: &str, how: &OpenOptions) -> Result<File, &'static str> {
     let found = fs::symlink_metadata(name).map_err(|_| "cannot open")?;
     if !found.is_file() {
         return Err("not a regular file");

@@ -3,6 +3,7 @@
 // Usage: plain [--log FILE [--sync] [--salvage]]
 #[path = "../memo/bits.rs"]
 mod bits;
+mod copying;
 mod database;
 #[path = "../memo/graph.rs"]
 mod graph;
