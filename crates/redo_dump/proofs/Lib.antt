@@ -1,10 +1,13 @@
+pub mod CutRows
 pub mod DumpCells
 pub mod DumpLines
 pub mod DumpMarks
 pub mod DumpWords
 pub mod OneDump
 pub mod Pieces
+pub mod SameParts
 pub mod SlotWords
 pub mod StateOver
+pub mod Taken
 pub mod WorkedDumps
 pub mod WorkedStates

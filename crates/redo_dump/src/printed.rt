@@ -22,7 +22,7 @@ pub struct DumpText {
 }
 
 /// Writes the line of the name with this number.
-fn put_name(out: &mut Vec<u8>, live: &Live, n: u32) -> Result<(), AllocError>
+pub(crate) fn put_name(out: &mut Vec<u8>, live: &Live, n: u32) -> Result<(), AllocError>
     requires { n < length live.now.names }
     ensures text { OnOk result (out.new.items ≡ out.old.items
         ++ cell_line (state_in live.now) (text_at live.now.names n)) }
@@ -63,7 +63,7 @@ fn put_targets(alloc: Global, out: &mut Vec<u8>, live: &Live) -> Result<(), Allo
 }
 
 /// The first line of a dump with these other lines.
-fn state_line(alloc: Global, live: &Live, body: &[u8]) -> Result<Vec<u8>, AllocError>
+pub(crate) fn state_line(alloc: Global, live: &Live, body: &[u8]) -> Result<Vec<u8>, AllocError>
     ensures { IfOk result (λ line. line.items ≡ state_line live.now.names body.now) }
 {
     let mut line = Vec::from_slice(alloc, b"state")?;

@@ -5,20 +5,21 @@ use std::alloc::Global;
 use std::process::Abort;
 
 /// What the sessions said, each with its number, counted from 0; and the dump then.
-struct Dumped {
+#[derive(Clone, Copy)]
+pub(crate) struct Dumped {
     said: &'static [(u16, &'static str)],
-    head: &'static str,
-    body: &'static str,
+    pub(crate) head: &'static str,
+    pub(crate) body: &'static str,
 }
 
-const EMPTY: Dumped = Dumped {
+pub(crate) const EMPTY: Dumped = Dumped {
     said: &[],
     head: "state 0 0 da39a3ee5e6b4b0d3255bfef95601890afd80709\n",
     body: "",
 };
 
 /// Nothing is known of these names but their files.
-const SOURCES: Dumped = Dumped {
+pub(crate) const SOURCES: Dumped = Dumped {
     said: &[(0, "file a.c 10"), (0, "file a.h 11"), (0, "gone a.h")],
     head: "state 2 13 13abcea05e2f18217cb15c8b36ee12614d6d0c0a\n",
     body: "a.c 10\na.h -\n",
@@ -26,7 +27,7 @@ const SOURCES: Dumped = Dumped {
 
 /// A target with rows on names that have each mark no longer, on one that still has it, on one without a file, and on
 /// one that had none.
-const MARKS: Dumped = Dumped {
+pub(crate) const MARKS: Dumped = Dumped {
     said: &[
         (0, "file s 1"),
         (0, "file k 1"),
@@ -71,7 +72,7 @@ const MARKS: Dumped = Dumped {
 };
 
 /// A target that is being built, and has rows on names with the marks that they have now.
-const BUILDING: Dumped = Dumped {
+pub(crate) const BUILDING: Dumped = Dumped {
     said: &[
         (0, "file s 1"),
         (0, "lock f"),
@@ -95,7 +96,7 @@ const BUILDING: Dumped = Dumped {
 };
 
 /// Targets whose files are no longer those of the last done; one has an always row alone.
-const DONE: Dumped = Dumped {
+pub(crate) const DONE: Dumped = Dumped {
     said: &[
         (0, "lock x"),
         (0, "start x"),

@@ -4,6 +4,8 @@
 #[cfg(test)]
 mod dumps;
 #[cfg(test)]
+mod loads;
+#[cfg(test)]
 mod log;
 #[cfg(test)]
 mod parts;

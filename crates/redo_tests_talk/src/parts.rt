@@ -169,29 +169,54 @@ fn known(alloc: Global, live: &mut Live) -> Result<Vec<u8>, Unanswered> {
     Ok(said)
 }
 
+/// What is answered and logged from then on.
+fn answers(alloc: Global, live: &mut Live) -> Result<(Vec<u8>, Vec<u8>), Unanswered> {
+    let (mut said, mut logged) = (Vec::new(alloc), Vec::new(alloc));
+    for (session, text) in AFTER {
+        live.answer(alloc, *session, text.as_bytes(), &mut said, &mut logged)?;
+    }
+    live.end(alloc, 1, &mut said, &mut logged)?;
+    Ok((said, logged))
+}
+
+/// Both know the same.
+fn know_alike(
+    rt: &impl Abort,
+    alloc: Global,
+    live: &mut Live,
+    copy: &mut Live,
+) -> Result<(), Unanswered> {
+    let one = known(alloc, live)?;
+    let other = known(alloc, copy)?;
+    assert!(rt; one.as_slice() == other.as_slice());
+    Ok(())
+}
+
+/// Both answer and log the same.
+fn answer_alike(
+    rt: &impl Abort,
+    alloc: Global,
+    live: &mut Live,
+    copy: &mut Live,
+) -> Result<(), Unanswered> {
+    let (said, logged) = answers(alloc, live)?;
+    let (said_too, logged_too) = answers(alloc, copy)?;
+    assert!(rt; said.as_slice() == said_too.as_slice());
+    assert!(rt; logged.as_slice() == logged_too.as_slice());
+    Ok(())
+}
+
+fn check(rt: &impl Abort, alloc: Global, live: &mut Live) -> Result<(), Unanswered> {
+    let mut copy = copy_of(rt, alloc, live)?;
+    know_alike(rt, alloc, live, &mut copy)?;
+    answer_alike(rt, alloc, live, &mut copy)?;
+    know_alike(rt, alloc, live, &mut copy)
+}
+
 /// The copy knows what the database knows, and answers as it does.
 #[test]
 fn copies(rt: HostRuntime) -> Result<(), Unanswered> {
     let alloc = rt.alloc();
     let mut live = told(alloc)?;
-    let mut copy = copy_of(&rt, alloc, &live)?;
-    assert!(rt; known(alloc, &mut live)?.as_slice() == known(alloc, &mut copy)?.as_slice());
-    let (mut said, mut logged) = (Vec::new(alloc), Vec::new(alloc));
-    let (mut said_too, mut logged_too) = (Vec::new(alloc), Vec::new(alloc));
-    for (session, text) in AFTER {
-        live.answer(alloc, *session, text.as_bytes(), &mut said, &mut logged)?;
-        copy.answer(
-            alloc,
-            *session,
-            text.as_bytes(),
-            &mut said_too,
-            &mut logged_too,
-        )?;
-    }
-    live.end(alloc, 1, &mut said, &mut logged)?;
-    copy.end(alloc, 1, &mut said_too, &mut logged_too)?;
-    assert!(rt; said.as_slice() == said_too.as_slice());
-    assert!(rt; logged.as_slice() == logged_too.as_slice());
-    assert!(rt; known(alloc, &mut live)?.as_slice() == known(alloc, &mut copy)?.as_slice());
-    Ok(())
+    check(&rt, alloc, &mut live)
 }

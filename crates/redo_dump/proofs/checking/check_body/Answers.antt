@@ -1,0 +1,9 @@
+use Rattle.redo_store.specs.Tables.{state_of}
+use Rattle.redo_dump.proofs.StateOver.{is_state_over}
+use Rattle.redo_dump.proofs.checking.check_body.Goals as goal
+
+pub returns-clause-over : goal.returns-clause-over
+returns-clause-over c =
+    let live = c.args.live.now in
+    is_state_over live.names c.count-count.ensures.names (state_of live.tables)
+    c.builders_hold.ensures c.in_ok-rows.ensures.forms c.in_ok-check_rows.ensures.forms

@@ -1,0 +1,29 @@
+use Rattle.std.proofs.Common.{◌∙◌, ◌++◌, ap, below_more, arith}
+use Rattle.redo_model.specs.Names.{Text}
+use Rattle.redo_live.specs.Inside.LiveState.{state_in}
+use Rattle.redo_dump.specs.Dumps.{rows_line}
+use Rattle.redo_dump.proofs.CutRows.{cut_more}
+use Rattle.redo_dump.proofs.checking.check_rows.Goals.{then-not-is_empty, else-not-is_empty}
+use Rattle.redo_dump.proofs.checking.check_rows.Goals as goal
+
+pub loop-t-preserved : goal.loop-t-preserved
+loop-t-preserved c =
+    let line = rows_line c.args.live.now.names (state_in c.args.live.now) in
+    let t = c.loop-t.t in
+    let rest : Text = c.in-Some.rest.now in
+    let few = c.loop-t.invariant.few in
+    record {
+      text = cut_more line t c.args.lines.now c.loop-t.left.now rest c.loop-t.invariant.text
+          (c.in-Some.ensures ∙ ap (λ (text : Text). text ++ rest)
+          (c.deref.ensures.value ∙ c.in_ok-put_rows.ensures.text
+          ∙ ap (λ (text : Text). text ++ line t) c.clear.ensures.items));
+      forms = below_more _ _ c.loop-t.invariant.forms c.in_ok-put_rows.ensures.forms;
+      few = elim c.if-not-is_empty.branch [
+        | then-not-is_empty w ↦ (let is = w.number-is in omega (arith, few, is))
+        | else-not-is_empty w ↦ (let is = w.number-is in omega (arith, few, is))
+      ];
+    }
+
+pub returns-then-is_empty-clause-forms : goal.returns-then-is_empty-clause-forms
+returns-then-is_empty-clause-forms c =
+    λ t below. c.loop-t.invariant.forms t (omega (arith, below))

@@ -1,0 +1,126 @@
+//! The words of a name's line, read without a promise on the text: what is printed of them decides.
+ghost use Rattle.std.specs.Prelude.{◌≡◌, ℕ, Some, IfSome};
+ghost use Rattle.redo_model.specs.State.{Building};
+ghost use Rattle.redo_records.specs.Meaning.{target_state_of};
+
+use hex::FromHex;
+use redo_history::{cut_at_space, session_of};
+use redo_records::{Cell, State};
+use redo_terms::FileStamp;
+use redo_text::read_number;
+
+/// How many sessions there are at most.
+const MOST_SESSIONS: u16 = 65_535;
+
+/// What is known of a name but its rows.
+#[derive(Drop)]
+pub(crate) struct Known {
+    pub cell: Cell,
+    pub holder: Option<u16>,
+    pub grants: u32,
+}
+
+/// A stamp, or none for `-`.
+fn file_of(word: &[u8]) -> Option<Option<FileStamp>> {
+    if word == b"-".as_slice() {
+        return Some(None);
+    }
+    let stamp = FileStamp::new(word)?;
+    Some(Some(stamp))
+}
+
+/// The stamp of the last done: that of the file for `=`.
+fn done_of(word: &[u8], file: &Option<FileStamp>) -> Option<Option<FileStamp>> {
+    if word == b"=".as_slice() {
+        return Some(*file);
+    }
+    match word.strip_prefix(b"s".as_slice()) {
+        Some(stamp) => file_of(stamp),
+        None => Some(None),
+    }
+}
+
+/// The 20 bytes with these hexadecimal digits.
+pub(crate) fn bytes_of(word: &[u8]) -> Option<[u8; 20]> {
+    <[u8; 20] as FromHex>::from_hex(word).ok()
+}
+
+/// A digest, or none for `-`.
+fn digest_of(word: &[u8]) -> Option<Option<[u8; 20]>> {
+    if word == b"-".as_slice() {
+        return Some(None);
+    }
+    let digest = bytes_of(word)?;
+    Some(Some(digest))
+}
+
+/// A session, counted from 0, or none for `-`.
+fn holder_of(word: &[u8]) -> Option<Option<u16>> {
+    if word == b"-".as_slice() {
+        return Some(None);
+    }
+    let session = session_of(word, MOST_SESSIONS)?;
+    Some(Some(session))
+}
+
+/// A state. The holder builds what is being built.
+fn state_of(word: &[u8], holder: Option<u16>) -> Option<State>
+    ensures { IfSome result (λ state. (s : ℕ) → target_state_of state ≡ Building s
+        → holder ≡ Some s) }
+{
+    if word == b"building".as_slice() {
+        let session = holder?;
+        return Some(State::Building(session));
+    }
+    if word == b"built".as_slice() {
+        return Some(State::Built);
+    }
+    if word == b"failed".as_slice() {
+        return Some(State::Failed);
+    }
+    if word == b"idle".as_slice() {
+        Some(State::Idle)
+    } else {
+        None
+    }
+}
+
+/// What is known of a name with this file, by the words after that.
+fn build_of(file: Option<FileStamp>, words: &[u8]) -> Option<Known>
+    ensures { IfSome result (λ known. (s : ℕ) → known.cell.state ≡ Building s
+        → known.holder ≡ Some s) }
+{
+    let (state, rest) = cut_at_space(words);
+    let (builds, rest) = cut_at_space(rest);
+    let (done, rest) = cut_at_space(rest);
+    let (digest, rest) = cut_at_space(rest);
+    let (grants, holder) = cut_at_space(rest);
+    let builds = read_number(builds)?;
+    let done = done_of(done, &file)?;
+    let digest = digest_of(digest)?;
+    let grants = read_number(grants)?;
+    let holder = holder_of(holder)?;
+    let state = state_of(state, holder)?;
+    Some(Known {
+        cell: Cell::known(builds, state, file, done, digest),
+        holder,
+        grants,
+    })
+}
+
+/// What is known of a name, by the words after it. What a session builds, it holds.
+pub(crate) fn known_of(words: &[u8]) -> Option<Known>
+    ensures { IfSome result (λ known. (s : ℕ) → known.cell.state ≡ Building s
+        → known.holder ≡ Some s) }
+{
+    let (word, rest) = cut_at_space(words);
+    let file = file_of(word)?;
+    if rest.is_empty() {
+        return Some(Known {
+            cell: Cell::known(0, State::Idle, file, None, None),
+            holder: None,
+            grants: 0,
+        });
+    }
+    build_of(file, rest)
+}
