@@ -1,5 +1,5 @@
 -- The words of a cell say what is known of a name but its rows.
-use Rattle.std.proofs.Common.{◌≡◌, ℕ, ◌<◌, ◌≤◌, ◌^◌, Bool, true, false, ◌&&◌, List, [], ◌∷◌, length, get_or, drop, Option, Some, None, refl, sym, ap, ◌∙◌, arith, if◌then◌else◌}
+use Rattle.std.proofs.Common.{◌≡◌, ℕ, ◌≤◌, Bool, true, false, ◌&&◌, List, [], ◌∷◌, length, get_or, drop, Option, Some, None, refl, sym, ap, ◌∙◌, arith, if◌then◌else◌}
 use Rattle.std.specs.Prelude.{◌==◌, is_none}
 use Rattle.std.specs.List.{AllByRecursion}
 use Rattle.std.proofs.lemmas.Bool.Decides.{nat_tests}
@@ -8,17 +8,11 @@ use Rattle.redo_model.specs.State.{Cell, TargetState, Idle, Building, Built, Fai
 use Rattle.redo_model.specs.Inside.State.{is_idle}
 use Rattle.redo_text.specs.Texts.{stamp_word}
 use Rattle.redo_text.proofs.Steps.{both}
-use Rattle.redo_dump.specs.Dumps.{HasCellForm, build_words, cell_words, done_word, is_plain}
-use Rattle.redo_dump.proofs.DumpWords.{IsWord, IsHolder, IsHeldBuilt, done_is_word, digest_is_word, holder_is_word, number_is_word, same_digest, same_done, same_holder, same_number, same_stage, same_stamp, stage_is_word, stamp_word_is_word}
+use Rattle.redo_dump.specs.Dumps.{build_words, cell_words, done_word, is_plain}
+use Rattle.redo_dump.specs.Inside.Forms.{IsToldCell}
+use Rattle.redo_dump.proofs.DumpWords.{IsWord, done_is_word, digest_is_word, holder_is_word, number_is_word, same_digest, same_done, same_holder, same_number, same_stage, same_stamp, stage_is_word, stamp_word_is_word}
 
--- what a cell has to be so that its words say it
-pub record IsToldCell (cell : Cell) (count : ℕ) (owner : Option ℕ) : Type 0 where
-  pub form : HasCellForm cell
-  pub grants : count < 2 ^ 32
-  pub holder : IsHolder owner
-  pub builder : IsHeldBuilt cell.state owner
-
-build_are_words : (cell : Cell) (grants : ℕ) (holder : Option ℕ) → IsToldCell cell grants holder
+pub build_are_words : (cell : Cell) (grants : ℕ) (holder : Option ℕ) → IsToldCell cell grants holder
     → AllByRecursion IsWord (build_words cell grants holder)
 build_are_words cell grants holder is =
     let builds = is.form.builds in
@@ -64,7 +58,7 @@ pub record AreAlike (a b : Cell) (g h : ℕ) (owner other : Option ℕ) : Type 0
   pub grants : g ≡ h
   pub holder : owner ≡ other
 
-abbrev told_cell : Option Text → TargetState → ℕ → Option Text → Option (List ℕ) → Cell
+abbrev pub told_cell : Option Text → TargetState → ℕ → Option Text → Option (List ℕ) → Cell
 told_cell file state builds done digest =
     record { file = file; state = state; builds = builds; done = done; digest = digest }
 
@@ -81,7 +75,7 @@ none_is (Some x) e = absurd cc
 zero_is : (n : ℕ) → (n == 0) ≡ true → n ≡ 0
 zero_is n e = grind (arith, nat_tests)
 
-plain_is : (cell : Cell) (grants : ℕ) (holder : Option ℕ) → is_plain cell grants holder ≡ true
+pub plain_is : (cell : Cell) (grants : ℕ) (holder : Option ℕ) → is_plain cell grants holder ≡ true
     → AreAlike cell (told_cell cell.file Idle 0 None None) grants 0 holder None
 plain_is cell grants holder e =
     let idle = is_idle cell.state in

@@ -15,8 +15,9 @@ use Rattle.redo_history.specs.Histories.{ended}
 use Rattle.redo_history.proofs.CutOnce.{Without}
 use Rattle.redo_live.specs.Answers.{flag_word}
 use Rattle.redo_dump.specs.Dumps.{IsStateOver, cell_words, row_words_at, rows_text, rows_line, numbers_of, body_of}
+use Rattle.redo_dump.specs.Inside.Forms.{IsToldCell}
 use Rattle.redo_dump.proofs.DumpMarks.{rows_are_words, one_row}
-use Rattle.redo_dump.proofs.DumpCells.{IsToldCell, AreAlike, cell_are_words, few_cell_words, same_cell}
+use Rattle.redo_dump.proofs.DumpCells.{AreAlike, cell_are_words, few_cell_words, same_cell}
 use Rattle.redo_dump.proofs.DumpWords.{IsWord, flag_is_word, name_is_word, number_is_word, same_flag}
 use Rattle.redo_live.proofs.Lines.{all_both}
 use Rattle.redo_dump.proofs.Pieces.{all_then, all_flat, few_pieces, line_is_free, IsShortLine, line_is_short, lines_are_short}
@@ -30,7 +31,7 @@ words_back w ws is all =
     words_of-spaced w ws is.0 (all_then IsWord IsVisible ws (λ x word. word.0) all)
 
 -- a line that is whole and short
-abbrev IsLine : Text → Type 0
+abbrev pub IsLine : Text → Type 0
 IsLine line = Without 10 line × IsShortLine line
 
 -- cells
@@ -143,7 +144,7 @@ rows_are_lines number true rows small all few = (
   tt,
 )
 
-one_line : (number : ℕ) (always : Bool) (rows : List Text)
+pub one_line : (number : ℕ) (always : Bool) (rows : List Text)
     → length (rows_lines number always rows) ≤ 1
 one_line number false [] = omega arith
 one_line number false (r ∷ rows) = omega arith
@@ -202,7 +203,7 @@ module _ (names : List Text) (st : State Text) where
   abbrev pub lines_in : List Text
   lines_in = map (cell_text st) names ++ flat_map lines_at (numbers_of names)
 
-  rows_part : (numbers : List ℕ)
+  pub rows_part : (numbers : List ℕ)
       → flat_map (rows_line names st) numbers ≡ flat_map ended (flat_map lines_at numbers)
   rows_part [] = refl
   rows_part (k ∷ numbers) =
@@ -235,7 +236,7 @@ module _ (names : List Text) (st : State Text) where
         (st.records.rows.change t (text_at names k)) (st.records.rows.created t (text_at names k))
         (omega arith) (is.marks t (text_at names k))) (omega arith)
 
-    rows_lines_are : (k : ℕ) → k < 2 ^ 32 → AllByRecursion IsLine (lines_at k)
+    pub rows_lines_are : (k : ℕ) → k < 2 ^ 32 → AllByRecursion IsLine (lines_at k)
     rows_lines_are k small =
         let t = text_at names k in
         let few = is.are_names.few in

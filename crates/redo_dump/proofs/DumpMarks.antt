@@ -1,6 +1,6 @@
 -- The word of the rows of a target on a name says them.
 use Rattle.std.proofs.Common.{◌≡◌, ℕ, ◌<◌, ◌≤◌, ◌^◌, Bool, true, false, ◌&&◌, List, [], ◌∷◌, ◌++◌, length, get_or, drop, Option, Some, None, IfSome, refl, sym, ap, ◌∙◌, subst, arith, if◌then◌else◌, length-append}
-use Rattle.std.specs.Prelude.{◌==◌, codes, decimal, ⊤}
+use Rattle.std.specs.Prelude.{◌==◌, codes, decimal}
 use Rattle.std.specs.Char.{is_ascii_digit}
 use Rattle.std.specs.List.{AllByRecursion}
 use Rattle.std.specs.Str.Parse.{AllDigits, without_leading_plus}
@@ -17,6 +17,7 @@ use Rattle.redo_model.specs.State.{Mark, File, Digest, Builds, Pending, Absent}
 use Rattle.redo_text.proofs.ReplyWords.{digest_is_visible}
 use Rattle.redo_text.proofs.Spaced.{IsVisible, stamp_is_visible}
 use Rattle.redo_dump.specs.Dumps.{HasMarkForm, same_mark, mark_word, change_word, created_word, row_words}
+use Rattle.redo_dump.specs.Inside.Read.{HasNoDigit}
 use Rattle.redo_dump.proofs.DumpWords.{IsWord, number_is_short, number_is_word, same_number, first_is_digit, stamp_is_short, same_encoded}
 
 -- marks
@@ -24,7 +25,7 @@ use Rattle.redo_dump.proofs.DumpWords.{IsWord, number_is_short, number_is_word, 
 equal_numbers : (m n : ℕ) → (m == n) ≡ true → m ≡ n
 equal_numbers m n e = grind (arith, nat_tests)
 
-same_mark_is : (a b : Mark) → same_mark a b ≡ true → a ≡ b
+pub same_mark_is : (a b : Mark) → same_mark a b ≡ true → a ≡ b
 same_mark_is (File s) (File r) e = ap File ((bytes_eq-Decides s r).0 e)
 same_mark_is (Digest d) (Digest c) e = ap Digest ((bytes_eq-Decides d c).0 e)
 same_mark_is (Builds m) (Builds n) e = ap Builds (equal_numbers m n e)
@@ -121,11 +122,6 @@ digits_at (c ∷ word) = if is_ascii_digit c then c ∷ digits_at word else []
 abbrev pub number_in : Text → Text
 number_in word = digits_at (without_leading_plus word)
 
--- the text does not begin with a digit
-abbrev HasNoDigit : Text → Type 0
-HasNoDigit [] = ⊤
-HasNoDigit (c ∷ word) = is_ascii_digit c ≡ false
-
 letter_is_no_digit : (c : ℕ) → 97 ≤ c → is_ascii_digit c ≡ false
 letter_is_no_digit c h = grind (arith, nat_tests)
 
@@ -135,11 +131,11 @@ marked_has_no_digit false mark =
     let letter = letter_of mark in
     subst HasNoDigit (sym letter.2) (letter_is_no_digit letter.0 letter.3)
 
-change_has_no_digit : (now : Mark) (change : Option Mark) → HasNoDigit (change_word now change)
+pub change_has_no_digit : (now : Mark) (change : Option Mark) → HasNoDigit (change_word now change)
 change_has_no_digit now None = tt
 change_has_no_digit now (Some mark) = marked_has_no_digit (same_mark mark now) mark
 
-is_digit : (c : ℕ) → (48 ≤ c) × (c ≤ 57) → is_ascii_digit c ≡ true
+pub is_digit : (c : ℕ) → (48 ≤ c) × (c ≤ 57) → is_ascii_digit c ≡ true
 is_digit c h = grind (arith, nat_tests)
 
 digits_before : (ds word : Text) → AllDigits 10 ds → HasNoDigit word → digits_at (ds ++ word) ≡ ds

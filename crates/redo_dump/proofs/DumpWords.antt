@@ -22,6 +22,7 @@ use Rattle.redo_text.proofs.ReplyWords.{digest_read, digest_is_visible}
 use Rattle.redo_text.proofs.Spaced.{IsVisible, name_is_visible, stamp_is_visible, stamp_is_no_dash}
 use Rattle.redo_live.specs.Answers.{flag_word, holder_word, stage_word}
 use Rattle.redo_dump.specs.Dumps.{IsStampOrNone, done_word, lettered_word}
+use Rattle.redo_dump.specs.Inside.Forms.{IsHeldBuilt, IsHolder}
 
 -- a word that is visible and short
 abbrev pub IsWord : Text → Type 0
@@ -80,7 +81,7 @@ stamp_word_is_word None is = (refl, omega arith)
 stamp_word_is_word (Some s) is =
     (stamp_is_visible s is, let short = stamp_is_short s is in omega arith)
 
-no_dash : (s : Text) → is_stamp s ≡ true → s ≡ codes "-" → ⊥
+pub no_dash : (s : Text) → is_stamp s ≡ true → s ≡ codes "-" → ⊥
 no_dash s is e =
     let no : true ≡ false = sym (ap (λ w. bytes_eq w (codes "-")) e) ∙ stamp_is_no_dash s is in
     absurd cc
@@ -97,17 +98,17 @@ lettered_is_word None is = (refl, omega arith)
 lettered_is_word (Some s) is =
     (stamp_is_visible s is, let short = stamp_is_short s is in omega arith)
 
-same_lettered : (a b : Option Text) → lettered_word a ≡ lettered_word b → a ≡ b
+pub same_lettered : (a b : Option Text) → lettered_word a ≡ lettered_word b → a ≡ b
 same_lettered None None e = refl
 same_lettered None (Some s) e = absurd (omega (arith, ap (λ w. get_or w 0 0) e))
 same_lettered (Some s) None e = absurd (omega (arith, ap (λ w. get_or w 0 0) e))
 same_lettered (Some s) (Some r) e = ap (λ w. Some (drop 1 w)) e
 
-lettered_is_no_equals : (stamp : Option Text) → lettered_word stamp ≡ codes "=" → ⊥
+pub lettered_is_no_equals : (stamp : Option Text) → lettered_word stamp ≡ codes "=" → ⊥
 lettered_is_no_equals None e = omega (arith, ap (λ w. get_or w 0 0) e)
 lettered_is_no_equals (Some s) e = omega (arith, ap (λ w. get_or w 0 0) e)
 
-same_option : (a b : Option Text) → option_eq bytes_eq a b ≡ true → a ≡ b
+pub same_option : (a b : Option Text) → option_eq bytes_eq a b ≡ true → a ≡ b
 same_option None None e = refl
 same_option None (Some s) e = absurd cc
 same_option (Some s) None e = absurd cc
@@ -148,7 +149,7 @@ pub digest_is_word : (digest : Option Text) → IfSome digest IsDigest → IsWor
 digest_is_word None is = (refl, omega arith)
 digest_is_word (Some d) is = encoded_is_word d is
 
-encoded_is_long : (digest : Text) → IsDigest digest → encode_lower digest ≡ codes "-" → ⊥
+pub encoded_is_long : (digest : Text) → IsDigest digest → encode_lower digest ≡ codes "-" → ⊥
 encoded_is_long digest is e =
     omega (arith, ap length e, length-encode_with lower_digits digest, is.0)
 
@@ -161,14 +162,11 @@ same_digest (Some d) (Some c) p q e = ap Some (same_encoded d c p q e)
 
 -- holders
 
-abbrev pub IsHolder : Option ℕ → Type 0
-IsHolder holder = IfSome holder (λ s. s < 65536)
-
 pub holder_is_word : (holder : Option ℕ) → IsHolder holder → IsWord (holder_word holder)
 holder_is_word None is = (refl, omega arith)
 holder_is_word (Some s) is = number_is_word (s + 1) (omega (arith, is))
 
-number_is_no_dash : (n : ℕ) → n < 10 ^ 64 → decimal n ≡ codes "-" → ⊥
+pub number_is_no_dash : (n : ℕ) → n < 10 ^ 64 → decimal n ≡ codes "-" → ⊥
 number_is_no_dash n small e =
     let digit = subst (AllDigits 10) e (decimal_is_IsNumeral_wide n small).0.1 in
     omega (arith, digit_from_value 45 digit.0)
@@ -196,10 +194,6 @@ stage_for word =
     if bytes_eq word (codes "idle") then Idle
     else if bytes_eq word (codes "built") then Built
     else Failed
-
--- the builder is the holder
-abbrev pub IsHeldBuilt : TargetState → Option ℕ → Type 0
-IsHeldBuilt state holder = (s : ℕ) → state ≡ Building s → holder ≡ Some s
 
 pub same_stage : (a b : TargetState) (holder : Option ℕ) → IsHeldBuilt a holder
     → IsHeldBuilt b holder

@@ -6,7 +6,6 @@ use Rattle.std.proofs.Math.Path.{fun_ext}
 use Rattle.std.specs.Cmp.Lexicographic.{bytes_decides}
 use Rattle.std.proofs.lemmas.List.{length-map}
 use Rattle.hex.specs.Hex.{encode_lower}
-use Rattle.sha1.specs.Sha1.{sha1}
 use Rattle.redo_model.specs.Names.{Text, text_at}
 use Rattle.redo_model.specs.State.{Cell, State, mark_in, mark_of}
 use Rattle.redo_model.proofs.Members.{contains_cases, contains_none}
@@ -15,7 +14,7 @@ use Rattle.redo_text.specs.Questions.{words_of}
 use Rattle.redo_history.specs.Histories.{ended}
 use Rattle.redo_history.proofs.CutOnce.{first_cut, same_prefix}
 use Rattle.redo_history.proofs.Digests.{sha1_is_digest}
-use Rattle.redo_dump.specs.Dumps.{IsStateOver, body_of, dump_of, numbers_of, row_words, row_words_at, state_line}
+use Rattle.redo_dump.specs.Dumps.{IsStateOver, body_of, counts, dump_of, numbers_of, row_words, row_words_at, state_line, sum_of}
 use Rattle.redo_dump.proofs.DumpLines.{IsAlike, body_is, body_is_short, at_are_words, cell_text, lines_are_free, lines_at, lines_in, number_at, rows_at, rows_numbered, same_cells, same_target, told, words_back}
 use Rattle.redo_dump.proofs.DumpMarks.{SameRows, number_in, rows_are_numbered, same_rows}
 use Rattle.redo_dump.proofs.DumpWords.{IsWord, encoded_is_word, number_is_word, same_number}
@@ -23,20 +22,20 @@ use Rattle.redo_dump.proofs.Pieces.{ended_then, line_is_free, same_lines, same_p
 
 -- the first line
 
-abbrev head_words : List Text → Text → List Text
+abbrev pub head_words : List Text → Text → List Text
 head_words names body =
-    decimal (length names) ∷ decimal (length body) ∷ encode_lower (sha1 body) ∷ []
+    decimal (length names) ∷ decimal (length body) ∷ encode_lower (sum_of names body) ∷ []
 
-state_is_word : IsWord (codes "state")
+pub state_is_word : IsWord (codes "state")
 state_is_word = (refl, omega arith)
 
-head_are_words : (names : List Text) (body : Text) → length names < 2 ^ 32
+pub head_are_words : (names : List Text) (body : Text) → length names < 2 ^ 32
     → length body < 10 ^ 64 → AllByRecursion IsWord (head_words names body)
 head_are_words names body few short = (
   number_is_word (length names) (omega arith),
   (
     number_is_word (length body) short,
-    (encoded_is_word (sha1 body) (sha1_is_digest body), tt),
+    (encoded_is_word (sum_of names body) (sha1_is_digest (ended (counts names body) ++ body)), tt),
   ),
 )
 
@@ -90,7 +89,7 @@ place_or_none (n ∷ names) t = by (bytes_eq n t) refl (place_or_none names t)
       | inr later ↦ none later
     ])
 
-all_at : (P : Text → Type 0) (names : List Text) → AllByRecursion P names → (k : ℕ)
+pub all_at : (P : Text → Type 0) (names : List Text) → AllByRecursion P names → (k : ℕ)
     → k < length names → P (text_at names k)
 all_at P [] all k below = absurd (omega arith)
 all_at P (n ∷ names) all zero below = all.0

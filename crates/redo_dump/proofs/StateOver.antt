@@ -10,7 +10,7 @@ use Rattle.redo_model.specs.Inside.Renaming.{named_state, numbering, value_at}
 use Rattle.redo_model.proofs.WhyByName.{unknown_without_number}
 use Rattle.redo_model.proofs.UsersByName.{unused_without_number}
 use Rattle.redo_live.proofs.Answering.{renaming}
-use Rattle.redo_dump.specs.Dumps.{HasCellForm, HasMarkForm, IsStateOver, IsUnheardOf}
+use Rattle.redo_dump.specs.Dumps.{HasCellForm, HasMarkForm, HasSessions, IsStateOver, IsUnheardOf}
 use Rattle.redo_dump.specs.Inside.Forms.{HasNameForm, HaveNameForms, HaveRowForms}
 
 module _ (names : List Text) (are : AreNames names) (st : State ℕ) where
@@ -45,7 +45,6 @@ module _ (names : List Text) (are : AreNames names) (st : State ℕ) where
   unheard_form : (text : Text) → IsUnheardOf here text → HasNameForm here text
   unheard_form text un = record {
     cell = subst HasCellForm (sym un.unknown.cell) idle_form;
-    holder = subst (λ (o : Option ℕ). IfSome o (λ s. s < 65536)) (sym un.unknown.holder) tt;
     grants = omega (arith, un.grants);
   }
 
@@ -60,9 +59,10 @@ module _ (names : List Text) (are : AreNames names) (st : State ℕ) where
 
   pub is_state_over : ((t : Text) (s : ℕ) → target_state here.records t ≡ Building s
       → here.locks.holder t ≡ Some s)
-      → HaveNameForms names here (length names) → HaveRowForms names here (length names)
+      → HasSessions here → HaveNameForms names here (length names)
+      → HaveRowForms names here (length names)
       → IsStateOver names here
-  is_state_over builders forms rows =
+  is_state_over builders sessions forms rows =
       let name_form = by_number (HasNameForm here) forms unheard_form in
       record {
         are_names = are;
@@ -75,6 +75,6 @@ module _ (names : List Text) (are : AreNames names) (st : State ℕ) where
             (λ name. IfSome (here.records.rows.change (text_at names t) name) HasMarkForm)
             (rows t below) (λ name un. no_mark _ (un.change (text_at names t))))
             (λ t un name. no_mark _ (un.unknown.change name));
-        holders = λ name. (name_form name).holder;
+        holders = sessions;
         grants = λ name. (name_form name).grants;
       }

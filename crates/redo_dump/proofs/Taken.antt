@@ -1,7 +1,8 @@
 -- The beginning of a text that is a first line and the bytes that it counts.
-use Rattle.std.proofs.Common.{◌≡◌, ◌≤◌, ◌∙◌, ◌+◌, [], ◌∷◌, ◌++◌, length, take, sym, ap, append_assoc, length-append, arith}
+use Rattle.std.proofs.Common.{◌≡◌, ◌≤◌, ◌∙◌, ◌+◌, List, [], ◌∷◌, ◌++◌, length, take, sym, ap, append_assoc, length-append, arith}
 use Rattle.std.proofs.lemmas.List.{take-append-le, take_all}
 use Rattle.redo_model.specs.Names.{Text}
+use Rattle.redo_dump.specs.Dumps.{state_line}
 
 -- how long the line with its LF and the bytes are
 pub size_of_both : (line body head : Text) → line ++ 10 ∷ [] ≡ head
@@ -32,4 +33,12 @@ both_within line body rest text is =
     let long = ap length is in
     let first = length-append (line ++ 10 ∷ body) rest in
     let next = length-append line (10 ∷ body) in
+    omega (arith, long, first, next)
+
+pub body_within : (names : List Text) (body rest text : Text)
+    → text ≡ (state_line names body ++ body) ++ rest → length body ≤ length text
+body_within names body rest text is =
+    let long = ap length is in
+    let first = length-append (state_line names body ++ body) rest in
+    let next = length-append (state_line names body) body in
     omega (arith, long, first, next)

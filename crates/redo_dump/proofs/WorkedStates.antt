@@ -45,7 +45,7 @@ distinct (n ∷ names) e =
 abbrev IsForm : Known → Type 0
 IsForm known =
     HasCellForm known.cell
-    × IfSome known.holder (λ s. s < 65536)
+    × IfSome known.holder (λ s. s < 65535)
     × (known.grants < 2 ^ 32)
     × ((s : ℕ) → known.cell.state ≡ Building s → known.holder ≡ Some s)
 

@@ -1,5 +1,5 @@
 -- Dumps: the text of all that is known of names.
-use Rattle.std.specs.Prelude.{◌≡◌, ℕ, ◌<◌, ◌^◌, Bool, true, false, ◌&&◌, ◌==◌, is_none, if◌then◌else◌, List, [], ◌∷◌, ◌++◌, length, Option, Some, None, IfSome, Contains, bytes_eq, codes, decimal, ⊤}
+use Rattle.std.specs.Prelude.{◌≡◌, ◌≢◌, ℕ, ◌+◌, ◌*◌, ◌<◌, ◌≤◌, ◌^◌, Bool, true, false, ◌&&◌, ◌==◌, is_none, if◌then◌else◌, List, [], ◌∷◌, ◌++◌, length, Option, Some, None, IfSome, Contains, bytes_eq, codes, decimal, ⊤}
 use Rattle.std.specs.List.{flat_map, range_with_len}
 use Rattle.std.specs.Option.{option_eq}
 use Rattle.hex.specs.Hex.{encode_lower}
@@ -14,6 +14,8 @@ use Rattle.redo_text.specs.Texts.{spaced, stamp_word, digest_word}
 use Rattle.redo_text.specs.Replies.{IsDigest}
 use Rattle.redo_history.specs.Histories.{ended}
 use Rattle.redo_live.specs.Answers.{flag_word, holder_word, stage_word}
+use Rattle.redo_dump.specs.declared.fault.LoadFault.{LoadFault}
+use Rattle.redo_dump.specs.declared.fault.LoadFault.TheVariants.{Memory, Worn, Line}
 
 -- "-" means no stamp; "s" stands before a stamp
 abbrev pub lettered_word : Option Text → Text
@@ -84,11 +86,19 @@ rows_text number always rows = ended (spaced (decimal number) (flag_word always 
 abbrev pub numbers_of : List Text → List ℕ
 numbers_of names = range_with_len 0 (length names)
 
--- the first line: how many names and bytes come, and the digest of these
+-- the first words of a dump: how many names and bytes come
+abbrev pub counts : List Text → Text → Text
+counts names body = spaced (codes "state") (decimal (length names) ∷ decimal (length body) ∷ [])
+
+-- the digest of all of a dump but the digest itself
+abbrev pub sum_of : List Text → Text → Text
+sum_of names body = sha1 (ended (counts names body) ++ body)
+
+-- the first line: how many names and bytes come, and the digest of these counts and bytes
 abbrev pub state_line : List Text → Text → Text
 state_line names body =
     ended (spaced (codes "state") (decimal (length names) ∷ decimal (length body)
-    ∷ encode_lower (sha1 body) ∷ []))
+    ∷ encode_lower (sum_of names body) ∷ []))
 
 -- a name's line
 abbrev pub cell_line : State Text → Text → Text
@@ -143,6 +153,15 @@ pub record IsUnheardOf (st : State Text) (text : Text) : Type 0 where
   pub change : (t : Text) → st.records.rows.change t text ≡ None
   pub created : (t : Text) → st.records.rows.created t text ≡ false
 
+-- only sessions that a conversation can have hold names
+abbrev pub HasSessions : State Text → Type 0
+HasSessions st = (name : Text) → IfSome (st.locks.holder name) (λ s. s < 65535)
+
+-- no name was built or granted more often
+pub record HasCountsUpTo (st : State Text) (most : ℕ) : Type 0 where
+  pub builds : (name : Text) → (st.records.cell name).builds ≤ most
+  pub grants : (name : Text) → st.locks.grants name ≤ most
+
 -- a state that knows no other names than these, and whose stamps, digests and numbers have their form
 pub record IsStateOver (names : List Text) (st : State Text) : Type 0 where
   pub are_names : AreNames names
@@ -152,5 +171,25 @@ pub record IsStateOver (names : List Text) (st : State Text) : Type 0 where
       → st.locks.holder t ≡ Some s
   pub cells : (name : Text) → HasCellForm (st.records.cell name)
   pub marks : (t name : Text) → IfSome (st.records.rows.change t name) HasMarkForm
-  pub holders : (name : Text) → IfSome (st.locks.holder name) (λ s. s < 65536)
+  pub holders : HasSessions st
   pub grants : (name : Text) → st.locks.grants name < 2 ^ 32
+
+-- a state that a dump can have: there are no more names than a database has at most
+pub record IsDumped (names : List Text) (st : State Text) : Type 0 where
+  pub over : IsStateOver names st
+  pub few : length names ≤ 16777216
+
+-- names were built or granted so often that too few calls are left for so many names
+abbrev pub IsWorn : List Text → State Text → Type 0
+IsWorn names st =
+    (most : ℕ) → HasCountsUpTo st most → 4294967165 < most + 2 * length names
+
+-- the cause of a fault; `Memory` says nothing of the text
+abbrev pub IsLoadFault : Text → LoadFault → Type 0
+IsLoadFault text Memory = ⊤
+IsLoadFault text Worn =
+    (names : List Text) (st : State Text) (rest : Text) → IsDumped names st
+    → text ≡ dump_of names st ++ rest → IsWorn names st
+IsLoadFault text (Line number) =
+    (names : List Text) (st : State Text) (rest : Text) → IsDumped names st
+    → text ≢ dump_of names st ++ rest

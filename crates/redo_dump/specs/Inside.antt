@@ -1,2 +1,4 @@
 pub mod Forms
+pub mod Read
+pub mod SetParts
 pub mod Slots

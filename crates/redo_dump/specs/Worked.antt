@@ -63,7 +63,7 @@ with_file name file = record {
 }
 
 abbrev pub nothing_dumped : Text
-nothing_dumped = ended (codes "state 0 0 da39a3ee5e6b4b0d3255bfef95601890afd80709")
+nothing_dumped = ended (codes "state 0 0 49d53525733ab592fe7182d48f3e73401a9763ca")
 
 -- one source
 abbrev pub source : State Text
@@ -71,7 +71,7 @@ source = state_with (with_file (codes "a.c") (Some (codes "10")) ∷ []) no_rows
 
 abbrev pub source_dumped : Text
 source_dumped = flat_map ended
-    (codes "state 1 7 680fc3102ec6bbbe3f9ff3f4b1eca8cf25736d55"
+    (codes "state 1 7 5e1008b3e327008c809c188e0f64cbc1c1b806d7"
     ∷ codes "a.c 10"
     ∷ [])
 
@@ -96,7 +96,7 @@ building = state_with known_of_building no_rows
 
 abbrev pub building_dumped : Text
 building_dumped = flat_map ended
-    (codes "state 1 23 39fe4e88f01102c8b2bdca11a8d33c52d0677495"
+    (codes "state 1 23 1f62858ce7a1fd4ca83d7a556b5ed023f0a217ca"
     ∷ codes "T 5 building 0 - - 1 1"
     ∷ [])
 
@@ -172,7 +172,7 @@ with_rows = state_with cells_with_rows (rows_of (codes "T") rows_of_each_mark)
 
 abbrev pub with_rows_dumped : Text
 with_rows_dumped = flat_map ended
-    (codes "state 8 195 d68b7e50bd624def5cfff6708b8403ec77fea7a7"
+    (codes "state 8 195 71aed130e87cff343c60046bc7b6cc9e80c5d16a"
     ∷ codes "T 5 built 1 = - 1 -"
     ∷ codes "c 10"
     ∷ codes "d 20 built 2 s19 da39a3ee5e6b4b0d3255bfef95601890afd80709 2 2"

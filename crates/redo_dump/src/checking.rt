@@ -1,9 +1,9 @@
 //! Whether a text is the dump of a database: each line is printed again.
-ghost use Rattle.std.specs.Prelude.{◌≡◌, ◌≢◌, ◌++◌, ◌∷◌, [], length, IfOk, MatchOption, OnOk};
+ghost use Rattle.std.specs.Prelude.{◌≡◌, ◌≢◌, ◌++◌, ◌∷◌, [], length, IfErr, IfOk, MatchOption, OnOk};
 ghost use Rattle.std.specs.List.{flat_map};
 ghost use Rattle.redo_model.specs.Names.{Text};
 ghost use Rattle.redo_live.specs.Inside.LiveState.{state_in};
-ghost use Rattle.redo_dump.specs.Dumps.{IsStateOver, body_of, cell_line, numbers_of, rows_line, state_line};
+ghost use Rattle.redo_dump.specs.Dumps.{HasSessions, IsStateOver, body_of, cell_line, numbers_of, rows_line, state_line};
 ghost use Rattle.redo_dump.specs.Inside.Forms.{HaveNameForms, HaveRowForms};
 
 use crate::fault::LoadFault;
@@ -26,6 +26,9 @@ fn after_names<'a>(live: &Live, line: &mut Vec<u8>, body: &'a [u8]) -> Result<&'
         ≡ flat_map (cell_line (state_in live.now)) live.now.names ++ left.now) }
     ensures forms { OnOk result
         (HaveNameForms live.now.names (state_in live.now) (length live.now.names)) }
+    ensures only { IfErr result (λ fault. (more : Text) → body.now
+        ≡ flat_map (cell_line (state_in live.now)) live.now.names ++ more
+        → fault ≡ LoadFault.Memory) }
 {
     let mut left = body;
     for n in 0..live.count() {
@@ -45,6 +48,9 @@ fn check_rows(alloc: Global, live: &Live, line: &mut Vec<u8>, lines: &[u8]) -> R
         ≡ flat_map (rows_line live.now.names (state_in live.now)) (numbers_of live.now.names)) }
     ensures forms { OnOk result
         (HaveRowForms live.now.names (state_in live.now) (length live.now.names)) }
+    ensures only { IfErr result (λ fault. lines.now
+        ≡ flat_map (rows_line live.now.names (state_in live.now)) (numbers_of live.now.names)
+        → fault ≡ LoadFault.Memory) }
 {
     let mut left = lines;
     let mut number = live.count() as usize + 2;
@@ -68,8 +74,11 @@ fn check_rows(alloc: Global, live: &Live, line: &mut Vec<u8>, lines: &[u8]) -> R
 
 /// Compares the lines of a dump but the first.
 pub(crate) fn check_body(alloc: Global, live: &Live, body: &[u8]) -> Result<(), LoadFault>
+    requires { HasSessions (state_in live.now) }
     ensures text { OnOk result (body.now ≡ body_of live.now.names (state_in live.now)) }
     ensures over { OnOk result (IsStateOver live.now.names (state_in live.now)) }
+    ensures only { IfErr result (λ fault. body.now ≡ body_of live.now.names (state_in live.now)
+        → fault ≡ LoadFault.Memory) }
 {
     live.builders_hold();
     let _count = live.count();
@@ -86,7 +95,9 @@ pub(crate) fn check_head(
     line: &[u8],
     body: &[u8],
 ) -> Result<(), LoadFault>
-    ensures { OnOk result (line.now ++ 10 ∷ [] ≡ state_line live.now.names body.now) }
+    ensures text { OnOk result (line.now ++ 10 ∷ [] ≡ state_line live.now.names body.now) }
+    ensures only { IfErr result (λ fault. line.now ++ 10 ∷ [] ≡ state_line live.now.names body.now
+        → fault ≡ LoadFault.Memory) }
 {
     let printed = state_line(alloc, live, body)?;
     match after(&printed, line) {

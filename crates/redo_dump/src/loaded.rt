@@ -1,8 +1,9 @@
 //! The database of a dump.
-ghost use Rattle.std.specs.Prelude.{◌≡◌, ◌≤◌, ◌++◌, ◌∷◌, length, take, IfOk, IfSome};
+ghost use Rattle.std.specs.Prelude.{◌≡◌, ℕ, ◌<◌, ◌≤◌, ◌^◌, ◌++◌, [], ◌∷◌, List, Some, codes, decimal, length, take, IfErr, IfOk, IfSome, IsSomeAnd};
 ghost use Rattle.redo_model.specs.Names.{Text};
-ghost use Rattle.redo_live.specs.Inside.LiveState.{state_in};
-ghost use Rattle.redo_dump.specs.Dumps.{IsStateOver, dump_of};
+ghost use Rattle.redo_text.specs.Texts.{spaced};
+ghost use Rattle.redo_live.specs.Inside.LiveState.{calls_in, state_in};
+ghost use Rattle.redo_dump.specs.Dumps.{HasCountsUpTo, IsLoadFault, IsStateOver, dump_of, state_line};
 
 use crate::checking::{check_body, check_head};
 use crate::fault::LoadFault;
@@ -39,7 +40,9 @@ struct Parts<'a> {
 }
 
 /// The number with these decimal digits.
-fn size_of(word: &[u8]) -> Option<usize> {
+fn size_of(word: &[u8]) -> Option<usize>
+    ensures { (n : ℕ) → n < 2 ^ 64 → word.now ≡ decimal n → result ≡ Some n }
+{
     let mut size: usize = 0;
     for digit in word {
         if !digit.is_ascii_digit() {
@@ -51,7 +54,11 @@ fn size_of(word: &[u8]) -> Option<usize> {
 }
 
 /// What a first line says.
-fn counts_of(line: &[u8]) -> Option<Counts> {
+fn counts_of(line: &[u8]) -> Option<Counts>
+    ensures { (names bytes : ℕ) (sum : Text) → names < 2 ^ 32 → bytes < 2 ^ 64
+        → line.now ≡ spaced (codes "state") (decimal names ∷ decimal bytes ∷ sum ∷ [])
+        → IsSomeAnd result (λ counts. (counts.names ≡ names) × (counts.bytes ≡ bytes)) }
+{
     let (_, rest) = cut_at_space(line);
     let (names, rest) = cut_at_space(rest);
     let (bytes, _) = cut_at_space(rest);
@@ -62,8 +69,12 @@ fn counts_of(line: &[u8]) -> Option<Counts> {
 
 /// Cuts a text by what its first line says.
 fn cut(text: &[u8]) -> Option<Parts<'_>>
-    ensures { IfSome result (λ parts. (rest : Text)
+    ensures parts { IfSome result (λ parts. (rest : Text)
         × (text.now ≡ parts.line.now ++ 10 ∷ parts.body.now ++ rest)) }
+    ensures only { (names : List Text) (body rest : Text) → length names < 2 ^ 32
+        → text.now ≡ (state_line names body ++ body) ++ rest
+        → IsSomeAnd result (λ parts. (parts.line.now ++ 10 ∷ [] ≡ state_line names body)
+        × (parts.names ≡ length names) × (parts.body.now ≡ body)) }
 {
     let (line, after) = cut_at(text, b'\n')?;
     let counts = counts_of(line)?;
@@ -77,7 +88,7 @@ fn cut(text: &[u8]) -> Option<Parts<'_>>
     })
 }
 
-/// The database of the dump that the text begins with. On a fault nothing is said of the text.
+/// The database of the dump that the text begins with.
 #[tactic(auto, using(crate::proofs::Taken::taken, crate::proofs::Taken::both_within))]
 pub fn load(alloc: Global, text: &[u8]) -> Result<Loaded, LoadFault>
     ensures bytes { IfOk result (λ loaded. loaded.bytes ≤ length text.now) }
@@ -85,6 +96,13 @@ pub fn load(alloc: Global, text: &[u8]) -> Result<Loaded, LoadFault>
         ≡ dump_of loaded.live.names (state_in loaded.live)) }
     ensures over { IfOk result
         (λ loaded. IsStateOver loaded.live.names (state_in loaded.live)) }
+
+    // As few calls count as answered as the numbers of builds and grants allow.
+    ensures calls { IfOk result (λ loaded. (most : ℕ)
+        → HasCountsUpTo (state_in loaded.live) most → calls_in loaded.live ≤ most) }
+
+    // A dump is loaded, unless memory runs out or too few calls are left.
+    ensures fault { IfErr result (IsLoadFault text.now) }
 {
     let Some(parts) = cut(text) else {
         return Err(LoadFault::Line(1));

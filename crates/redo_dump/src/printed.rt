@@ -1,9 +1,11 @@
 //! The dump of a database.
 ghost use Rattle.std.specs.Prelude.{◌≡◌, ◌<◌, ◌++◌, length, IfOk, OnOk};
 ghost use Rattle.std.specs.List.{flat_map};
+ghost use Rattle.sha1.specs.Sha1.{sha1};
 ghost use Rattle.redo_model.specs.Names.{text_at};
+ghost use Rattle.redo_history.specs.Histories.{ended};
 ghost use Rattle.redo_live.specs.Inside.LiveState.{state_in};
-ghost use Rattle.redo_dump.specs.Dumps.{IsStateOver, body_of, cell_line, dump_of, numbers_of, rows_line, state_line};
+ghost use Rattle.redo_dump.specs.Dumps.{HasSessions, IsStateOver, body_of, cell_line, dump_of, numbers_of, rows_line, state_line};
 ghost use Rattle.redo_dump.specs.Inside.Forms.{HasNameForm, HaveNameForms, HaveRowForms};
 
 use crate::cells::put_cell;
@@ -62,6 +64,17 @@ fn put_targets(alloc: Global, out: &mut Vec<u8>, live: &Live) -> Result<(), Allo
     Ok(())
 }
 
+/// The digest of these counts and of the bytes that they count.
+fn sum(counts: &[u8], body: &[u8]) -> [u8; 20]
+    ensures { result ≡ sha1 (ended counts.now ++ body.now) }
+{
+    let mut hasher = Sha1::new();
+    hasher.update(counts);
+    hasher.update(b"\n");
+    hasher.update(body);
+    hasher.finalize()
+}
+
 /// The first line of a dump with these other lines.
 pub(crate) fn state_line(alloc: Global, live: &Live, body: &[u8]) -> Result<Vec<u8>, AllocError>
     ensures { IfOk result (λ line. line.items ≡ state_line live.now.names body.now) }
@@ -69,8 +82,9 @@ pub(crate) fn state_line(alloc: Global, live: &Live, body: &[u8]) -> Result<Vec<
     let mut line = Vec::from_slice(alloc, b"state")?;
     put_count(&mut line, live.count() as usize)?;
     put_count(&mut line, body.len())?;
+    let sum = sum(&line, body);
     line.push(b' ')?;
-    put_digest(&mut line, &Sha1::digest(body))?;
+    put_digest(&mut line, &sum)?;
     line.push(b'\n')?;
     Ok(line)
 }
@@ -94,7 +108,8 @@ fn body(alloc: Global, live: &Live) -> Result<Vec<u8>, AllocError>
 pub fn dump(alloc: Global, live: &Live) -> Result<DumpText, AllocError>
     ensures dump { IfOk result (λ text. text.head.items ++ text.body.items
         ≡ dump_of live.now.names (state_in live.now)) }
-    ensures over { IfOk result (λ text. IsStateOver live.now.names (state_in live.now)) }
+    ensures over { IfOk result (λ text. HasSessions (state_in live.now)
+        → IsStateOver live.now.names (state_in live.now)) }
 {
     // the laws that `over` rests on
     live.builders_hold();

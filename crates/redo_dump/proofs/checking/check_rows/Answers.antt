@@ -1,8 +1,10 @@
-use Rattle.std.proofs.Common.{◌∙◌, ◌++◌, ap, below_more, arith}
+use Rattle.std.proofs.Common.{◌≡◌, ◌∙◌, ◌+◌, ◌-◌, suc, ◌++◌, length, ap, below_more, arith}
+use Rattle.std.specs.List.{flat_map, range_with_len}
+use Rattle.std.proofs.lemmas.Bool.Decides.{nat_tests}
 use Rattle.redo_model.specs.Names.{Text}
 use Rattle.redo_live.specs.Inside.LiveState.{state_in}
 use Rattle.redo_dump.specs.Dumps.{rows_line}
-use Rattle.redo_dump.proofs.CutRows.{cut_more}
+use Rattle.redo_dump.proofs.CutRows.{cut_more, left_after, next_number}
 use Rattle.redo_dump.proofs.checking.check_rows.Goals.{then-not-is_empty, else-not-is_empty}
 use Rattle.redo_dump.proofs.checking.check_rows.Goals as goal
 
@@ -27,3 +29,28 @@ loop-t-preserved c =
 pub returns-then-is_empty-clause-forms : goal.returns-then-is_empty-clause-forms
 returns-then-is_empty-clause-forms c =
     λ t below. c.loop-t.invariant.forms t (omega (arith, below))
+
+pub returns-in_default-clause-only : goal.returns-in_default-clause-only
+returns-in_default-clause-only c = λ whole.
+    let names = c.args.live.now.names in
+    let line = rows_line names (state_in c.args.live.now) in
+    let t = c.loop-t.t in
+    let count : length names ≡ t + suc (length names - (t + 1)) = omega arith in
+    absurd (next_number line t (length names - (t + 1)) c.args.lines.now c.loop-t.left.now
+    c.deref.result.now c.loop-t.invariant.text
+    (whole ∙ ap (λ n. flat_map line (range_with_len 0 n)) count)
+    (c.deref.ensures.value ∙ c.in_ok-put_rows.ensures.text
+    ∙ ap (λ (text : Text). text ++ line t) c.clear.ensures.items)
+    c.in_default.ensures)
+
+pub returns-else-is_empty-clause-only : goal.returns-else-is_empty-clause-only
+returns-else-is_empty-clause-only c = λ whole.
+    let names = c.args.live.now.names in
+    let line = rows_line names (state_in c.args.live.now) in
+    let t = c.loop-t.t in
+    let all : t + 0 ≡ length names = omega arith in
+    let none =
+    left_after line t 0 (length names) c.args.lines.now c.loop-t.left.now all
+    c.loop-t.invariant.text whole in
+    let nothing : length c.loop-t.left.now ≡ 0 = ap length none in
+    absurd (grind (arith, nat_tests))

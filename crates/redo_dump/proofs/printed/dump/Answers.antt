@@ -5,5 +5,6 @@ use Rattle.redo_dump.proofs.printed.dump.Goals as goal
 pub returns-clause-over : goal.returns-clause-over
 returns-clause-over c =
     let live = c.args.live.now in
+    λ sessions.
     is_state_over live.names c.count-count.ensures.names (state_of live.tables)
-    c.builders_hold.ensures c.in_ok-body.ensures.names c.in_ok-body.ensures.rows
+    c.builders_hold.ensures sessions c.in_ok-body.ensures.names c.in_ok-body.ensures.rows
