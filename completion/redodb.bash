@@ -83,7 +83,7 @@ _redodb_live() {
     if [ "${COMP_WORDS[COMP_CWORD - 1]}" = --log ]; then
         _redodb_files -f "$word"
     else
-        mapfile -t COMPREPLY < <(compgen -W '--log --sync --salvage --help --version' -- "$word")
+        mapfile -t COMPREPLY < <(compgen -W '--log --sync --salvage --compact --whole --help --version' -- "$word")
     fi
 }
 

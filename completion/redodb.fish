@@ -51,6 +51,8 @@ complete -c redodb -n '__redodb_word serve record picture' -l help -d 'Print a s
 complete -c redodb-live -l log -r -d 'Go on from this log'
 complete -c redodb-live -l sync -d 'Sync each line'
 complete -c redodb-live -l salvage -d 'Cut a damaged log'
+complete -c redodb-live -l compact -d 'Put a dump in the place of the log'
+complete -c redodb-live -l whole -d 'Keep all lines of the log'
 complete -c redodb-live -l help -d 'Print a summary'
 complete -c redodb-live -l version -d 'Print the version'
 

@@ -45,6 +45,7 @@ case $service in
     redodb) _redodb_program ;;
     redodb-live)
         _arguments '--log[go on from this log]:log:_files' '--sync[sync each line]' '--salvage[cut a damaged log]' \
+            '(--whole)--compact[put a dump in the place of the log]' '(--compact)--whole[keep all lines of the log]' \
             '--help[print a summary]' '--version[print the version]' ;;
     redo)
         _arguments '(-j --jobs)'{-j,--jobs=}'[scripts at once]:number:' '(-k --keep-going)'{-k,--keep-going}'[go on after a failure]' \

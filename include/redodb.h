@@ -54,11 +54,12 @@ typedef struct redodb redodb;
 /* What of a log was restored. */
 typedef struct redodb_restored {
     /* If it succeeded: how many lines were done again. If the bytes differ: how many lines come before the first one
-     * that is not the database's answer. The header is not counted. */
+     * that is not the database's answer. The header is not counted, nor are the lines of a dump. */
     size_t lines;
-    /* How many bytes these lines and the header have. The bytes after them were torn, or differ. */
+    /* How many bytes these lines have, with all before them. The bytes after them were torn, or differ. */
     size_t bytes;
-    /* If the bytes differ: the number of the line that does, counted from 1; the header is line 1. Else 0. */
+    /* If the bytes differ: the number of the line that does, or is no line of a dump, counted from 1; the header is
+     * line 1. Else 0. */
     size_t line;
 } redodb_restored;
 
@@ -68,11 +69,11 @@ typedef struct redodb_restored {
 int redodb_open(redodb **database);
 
 /* Makes a database in the state after the log in the `size` bytes at `log`, and puts it at *database, as redodb_open
- * does. The bytes are the line `redodb-log 1` and then what was logged; a last line without its LF was torn, and is
- * left out. No bytes make an empty database; then `log` may be null. What was restored is put at *restored, which may
- * be null. Sessions hold what they held: a caller whose sessions have ended ends them. Returns REDODB_OK; or
- * REDODB_DIFFERS, REDODB_WORN or REDODB_MEMORY, and then *database is null; or REDODB_MISUSE if `database` is null, or
- * `log` is and `size` isn't 0. */
+ * does. The bytes are the line `redodb-log 1` and then what was logged, or a log that redodb-live has compacted; a last
+ * line without its LF was torn, and is left out. No bytes make an empty database; then `log` may be null. What was
+ * restored is put at *restored, which may be null. Sessions hold what they held: a caller whose sessions have ended
+ * ends them. Returns REDODB_OK; or REDODB_DIFFERS, REDODB_WORN or REDODB_MEMORY, and then *database is null; or
+ * REDODB_MISUSE if `database` is null, or `log` is and `size` isn't 0. */
 int redodb_restore(redodb **database, const void *log, size_t size, redodb_restored *restored);
 
 /* Answers one line, `SESSION COMMAND`, `SESSION end` or a question, which is the `length` bytes at `line`, without an

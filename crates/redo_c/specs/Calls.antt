@@ -3,6 +3,7 @@ use Rattle.std.specs.Prelude.{◌≡◌, ◌⊎◌, ℕ, ◌<◌, ◌++◌, [], 
 use Rattle.redo_model.specs.Names.{Text}
 use Rattle.redo_model.specs.State.{empty}
 use Rattle.redo_live.specs.Inside.LiveState.{LiveState, IsAsKnown, state_in}
+use Rattle.redo_log.specs.Logs.{HasPast, Past}
 use Rattle.redo_log.specs.Restores.{IsRestored, DiffersAt, HasTooMany}
 use Rattle.redo_log.specs.declared.restoring.Restored.{Restored}
 use Rattle.redo_talk.specs.Rounds.{Round}
@@ -55,12 +56,15 @@ Opens status contents now =
     ⊎ ((status ≡ 3) × (now ≡ contents))
 
 -- the log's lines were done again, and the database is open there; or the log has a fault, or
--- memory ran out, and nothing was done
+-- memory ran out, and nothing was done. What is said of the log holds for each past that it has
 abbrev pub Restores : ℕ → Contents → Contents → Text → Counts → Type 0
 Restores status contents now log counts =
-    ((status ≡ 0) × ((restored : Restored) × IsRestored log restored × (now ≡ Open restored.live)
+    ((status ≡ 0) × ((restored : Restored)
+    × ((past : Past) → HasPast past log → IsRestored past log restored)
+    × (now ≡ Open restored.live)
     × (counts.lines ≡ restored.lines) × (counts.bytes ≡ restored.bytes) × (counts.line ≡ 0)))
     ⊎ ((now ≡ contents)
     × ((status ≡ 3)
-    ⊎ (((status ≡ 4) × DiffersAt log counts.line counts.lines counts.bytes)
-    ⊎ ((status ≡ 5) × HasTooMany log))))
+    ⊎ (((status ≡ 4) × ((past : Past) → HasPast past log
+    → DiffersAt past log counts.line counts.lines counts.bytes))
+    ⊎ ((status ≡ 5) × ((past : Past) → HasPast past log → HasTooMany past log)))))

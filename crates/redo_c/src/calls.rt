@@ -68,7 +68,14 @@ pub extern "C" fn redo_c_restore(
     ensures { Restores result handle.old.contents handle.new.contents log.now counts.new }
 {
     match restore(alloc, log) {
-        Ok(Restored { live, lines, bytes }) => match Opened::new(alloc, live) {
+        Ok(
+            Restored {
+                live,
+                lines,
+                bytes,
+                ..
+            },
+        ) => match Opened::new(alloc, live) {
             Ok(opened) => {
                 counts.lines = lines;
                 counts.bytes = bytes;
@@ -80,6 +87,12 @@ pub extern "C" fn redo_c_restore(
         },
         Err(RestoreFault::Memory) => MEMORY,
         Err(RestoreFault::Worn) => WORN,
+        Err(RestoreFault::State { line }) => {
+            counts.lines = 0;
+            counts.bytes = 0;
+            counts.line = line;
+            DIFFERS
+        }
         Err(RestoreFault::Differs { line, lines, bytes }) => {
             counts.lines = lines;
             counts.bytes = bytes;

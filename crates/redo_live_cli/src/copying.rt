@@ -49,8 +49,8 @@ fn copied(file: &File, copy: &File) -> io::Result<Option<u64>> {
 /// other file stays closed, or as it is.
 fn open_begun(rt: &HostRuntime, name: &str, file: &File) -> Result<(File, u64), LogFault> {
     let copy = match open_found(rt, name, OpenOptions::new().read(true).append(true)) {
-        Ok(copy) => copy,
-        Err(OpenFault::CannotOpen) => return Err(LogFault::CannotCopy),
+        Ok(Some(copy)) => copy,
+        Ok(None) | Err(OpenFault::CannotOpen) => return Err(LogFault::CannotCopy),
         Err(_) => return Err(LogFault::IsCopied),
     };
     match copied(file, &copy) {

@@ -3,6 +3,7 @@ ghost use Rattle.std.specs.Prelude.{◌≡◌, []};
 
 use crate::fault::say;
 use crate::log_file::LogFile;
+use crate::replacing::{KeepCause, ReplaceFault};
 use crate::writing::write_or_part;
 use redo_log::{Devices, LogFault, Record, Unread};
 use redo_whole::WriteFault;
@@ -37,13 +38,22 @@ impl<'a> FileDevices<'a> {
             done: Record::new(),
         }
     }
+
+    /// Tells the user why the log was not replaced.
+    fn tell_kept(&self, cause: KeepCause) {
+        let name = self.log.name();
+        let line = format!(in self.rt.alloc(); "redodb-live: {name}.new: {cause}\n");
+        if let Ok(line) = line {
+            say(self.rt, &line);
+        }
+    }
 }
 
 impl Devices for FileDevices<'_> {
     ghost history = { λ done. done };
 
-    fn read(&mut self, alloc: Global, header: &[u8]) -> Result<Vec<u8>, Unread> {
-        let read = self.log.read(alloc, header);
+    fn read(&mut self, alloc: Global) -> Result<Vec<u8>, Unread> {
+        let read = self.log.read(alloc);
         match &read {
             Ok(bytes) => self.done.read(bytes),
             Err(Unread::Memory) => {}
@@ -105,6 +115,24 @@ impl Devices for FileDevices<'_> {
             Err(_) => self.done.log_failed(),
         }
         copied
+    }
+
+    fn replace(&mut self, bytes: &[u8]) -> Result<bool, LogFault> {
+        match self.log.replace(self.rt, bytes) {
+            Ok(()) => {
+                self.done.replaced(bytes);
+                Ok(true)
+            }
+            Err(ReplaceFault::Kept(cause)) => {
+                self.tell_kept(cause);
+                Ok(false)
+            }
+            Err(ReplaceFault::Unsynced) => {
+                self.done.replaced(bytes);
+                self.done.log_failed();
+                Err(LogFault::Write)
+            }
+        }
     }
 
     fn tell_cut(&mut self, lines: usize, bytes: usize) {

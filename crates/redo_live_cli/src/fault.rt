@@ -44,6 +44,9 @@ pub enum LogFault {
     /// Lines are counted from 1, the header among them.
     #[error(": line {line} differs")]
     Differs { line: usize },
+    /// The dump that it begins with is damaged.
+    #[error(": line {line}: no state")]
+    State { line: usize },
     #[error(": worn")]
     Worn,
     /// Another file, or a copy of another log, has the name of the copy.
@@ -79,6 +82,7 @@ impl From<ServeFault> for Fault {
         match fault {
             ServeFault::Memory => Fault::Memory,
             ServeFault::Worn => Fault::Log(LogFault::Worn),
+            ServeFault::State { line } => Fault::Log(LogFault::State { line }),
             ServeFault::Differs { line } => Fault::Log(LogFault::Differs { line }),
             ServeFault::Log(fault) => Fault::Log(LogFault::from(fault)),
             ServeFault::Read | ServeFault::TooLong => Fault::Read,

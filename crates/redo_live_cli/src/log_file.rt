@@ -3,6 +3,7 @@ ghost use Rattle.redo_log.specs.Operations.{IsPrefix};
 
 use crate::copying::{copy_to, write_again};
 use crate::reading::read_log;
+use crate::replacing::{ReplaceFault, replace};
 use crate::writing::write_or_part;
 use redo_log::{LogFault, Unread};
 use std::alloc::Global;
@@ -14,7 +15,11 @@ pub struct LogFile<'a> {
     name: &'a str,
     /// The name of the copy of a damaged log.
     copy: String,
+    /// The name of a file that is to take its place.
+    new: String,
     file: Option<File>,
+    /// The file whose place it took: it stays locked, so that who opened it meanwhile finds it in use.
+    former: Option<File>,
     /// How many bytes it had when it was read, how many it has, and how many it had when it was synced.
     found: u64,
     length: u64,
@@ -24,11 +29,13 @@ pub struct LogFile<'a> {
 }
 
 impl<'a> LogFile<'a> {
-    pub fn new(name: &'a str, copy: String, file: Option<File>) -> LogFile<'a> {
+    pub fn new(name: &'a str, copy: String, new: String, file: Option<File>) -> LogFile<'a> {
         LogFile {
             name,
             copy,
+            new,
             file,
+            former: None,
             found: 0,
             length: 0,
             synced: 0,
@@ -45,7 +52,7 @@ impl<'a> LogFile<'a> {
         self.found.saturating_sub(bytes as u64)
     }
 
-    pub fn read(&mut self, alloc: Global, header: &[u8]) -> Result<Vec<u8>, Unread> {
+    pub fn read(&mut self, alloc: Global) -> Result<Vec<u8>, Unread> {
         let Some(file) = &self.file else {
             return Ok(Vec::new(alloc));
         };
@@ -55,7 +62,7 @@ impl<'a> LogFile<'a> {
         self.found = metadata.len();
         self.length = metadata.len();
         self.is_changed = metadata.len() > 0;
-        read_log(alloc, file, metadata.len(), header)
+        read_log(alloc, file, metadata.len())
     }
 
     /// Appends the bytes, or gives those that were appended before a write failed.
@@ -123,6 +130,19 @@ impl<'a> LogFile<'a> {
         if let Some(file) = &self.file {
             let _ = write_again(rt, self.name, file);
         }
+    }
+
+    /// Puts a file with these bytes in its place, which is on the disk then.
+    pub fn replace(&mut self, rt: &HostRuntime, bytes: &[u8]) -> Result<(), ReplaceFault> {
+        let Some(file) = &self.file else {
+            return Ok(());
+        };
+        let new = replace(rt, self.name, &self.new, file, bytes)?;
+        self.former = self.file.replace(new);
+        self.length = bytes.len() as u64;
+        self.synced = self.length;
+        self.is_changed = false;
+        Ok(())
     }
 
     /// Copies all bytes to a file beside it, which is on the disk then, or goes on with a copy that was begun.

@@ -9,15 +9,16 @@ mod fault;
 mod log_file;
 mod opening;
 mod reading;
+mod replacing;
 mod writing;
 
 use devices::FileDevices;
 use fault::Fault;
 use log_file::LogFile;
 use opening::{hold_closed, open_log};
-use redo_talk::{Keeping, serve};
+use redo_talk::{Compacting, Keeping, serve};
 use redo_whole::Watched;
-use redo_words::{Conversation, WordsFault, conversation};
+use redo_words::{self as words, Conversation, WordsFault, conversation};
 use std::fs::File;
 use std::process::ExitCode;
 use std::rt::Env;
@@ -47,16 +48,29 @@ fn asked<R: Env + AllocGlobal>(rt: &R) -> Result<Conversation, Fault> {
     }
 }
 
+/// When a dump takes the place of the log.
+fn compacting(log: &words::LogFile) -> Compacting {
+    if log.compact {
+        Compacting::Always
+    } else if log.whole {
+        Compacting::Never
+    } else {
+        Compacting::InTime
+    }
+}
+
 /// How the log that the arguments name is kept.
 fn keeping(conversation: &Conversation) -> Keeping {
     match &conversation.log {
         Some(log) => Keeping {
             sync: log.sync,
             salvage: log.salvage,
+            compacting: compacting(log),
         },
         None => Keeping {
             sync: false,
             salvage: false,
+            compacting: Compacting::Never,
         },
     }
 }
@@ -70,7 +84,7 @@ fn devices_of<'a>(
 {
     let log = match &conversation.log {
         Some(asked) => open_log(rt, asked)?,
-        None => LogFile::new("", String::new(rt.alloc()), None),
+        None => LogFile::new("", String::new(rt.alloc()), String::new(rt.alloc()), None),
     };
     Ok(FileDevices::new(rt, log))
 }

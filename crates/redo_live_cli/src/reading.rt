@@ -1,4 +1,4 @@
-use redo_log::{LogFault, Unread};
+use redo_log::{DUMP_HEADER, LOG_HEADER, LogFault, Unread};
 use redo_whole::{Watched, WholeFault, read_whole};
 use std::alloc::Global;
 use std::fs::File;
@@ -21,10 +21,10 @@ fn read_head(alloc: Global, file: &File, length: u64, most: usize) -> Result<Vec
     Ok(head)
 }
 
-/// All bytes of a file that has this length. If they don't begin as the header does, the first ones alone.
-pub fn read_log(alloc: Global, file: &File, length: u64, header: &[u8]) -> Result<Vec<u8>, Unread> {
-    let head = read_head(alloc, file, length, header.len())?;
-    if !header.starts_with(&head) {
+/// All bytes of a file that has this length. If they don't begin as a log does, the first ones alone.
+pub fn read_log(alloc: Global, file: &File, length: u64) -> Result<Vec<u8>, Unread> {
+    let head = read_head(alloc, file, length, LOG_HEADER.len())?;
+    if !LOG_HEADER.starts_with(&head) && !DUMP_HEADER.starts_with(&head) {
         return Ok(head);
     }
     match read_whole(alloc, &mut Watched::new(file.take(length)), usize::MAX) {

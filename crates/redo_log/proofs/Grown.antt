@@ -34,7 +34,7 @@ fewer_names lines more =
     (sym (names_after-append lines more))
     (with_names-longer (names_after lines) (flat_map own_names more))
 
-all_parts : {X : Type 0} (P : X → Type 0) (xs ys : List X) → AllByRecursion P (xs ++ ys)
+pub all_parts : {X : Type 0} (P : X → Type 0) (xs ys : List X) → AllByRecursion P (xs ++ ys)
     → AllByRecursion P xs × AllByRecursion P ys
 all_parts P [] ys h = (tt, h)
 all_parts P (x ∷ xs) ys h = let rest = all_parts P xs ys h.1 in ((h.0, rest.0), rest.1)

@@ -4,3 +4,5 @@ pub mod Asked
 pub mod Redone
 pub mod Stepping
 pub mod Prefixes
+pub mod Counts
+pub mod Dumped

@@ -12,14 +12,14 @@ use Rattle.redo_text.specs.Grammar.{AddsNames}
 use Rattle.redo_history.specs.Histories.{line_text_of}
 use Rattle.redo_history.proofs.HistoryReadsBack.{own_text_of}
 use Rattle.redo_history.proofs.TextCuts.{has_lf}
-use Rattle.redo_live.specs.Inside.LiveState.{LiveState, state_in, calls_in}
+use Rattle.redo_live.specs.Inside.LiveState.{LiveState}
 use Rattle.redo_live.specs.Inside.Told.{IsWorn}
 use Rattle.redo_live.specs.Lines.{lines_text_of, names_after}
-use Rattle.redo_log.specs.Logs.{log_header, AreLogged, IsLogOf}
-use Rattle.redo_log.specs.Restores.{IsLeftBy, IsRestoredTo, DiffersBehind, IsRestoreCause, IsOfRoom}
+use Rattle.redo_log.specs.Logs.{Past, past_lines, head_of, AreLogged, IsLogOf}
+use Rattle.redo_log.specs.Restores.{IsLeftBy, IsRestoredTo, DiffersBehind, IsRestoreCause, IsOfRoom, IsWithin}
 use Rattle.redo_log.specs.declared.restoring.RestoreFault.{RestoreFault}
-use Rattle.redo_log.specs.declared.restoring.RestoreFault.TheVariants.{Memory, Worn, Differs}
-use Rattle.redo_log.specs.Inside.Steps.{NothingFollows, DoesNext, IsDoneUpTo}
+use Rattle.redo_log.specs.declared.restoring.RestoreFault.TheVariants.{Memory, Worn, State as NoState, Differs}
+use Rattle.redo_log.specs.Inside.Steps.{BeginsAfter, NothingFollows, DoesNext, IsDoneUpTo}
 use Rattle.redo_log.proofs.Grown.{logged_more, can_follow}
 
 -- a line's text ends with a line feed
@@ -27,6 +27,14 @@ text_has_lf : (line : Line Text) (rest : Text) → Contains (line_text_of line +
 text_has_lf line rest =
     let own = own_text_of line in
     subst (λ (t : Text). Contains t 10) (sym (append_assoc own (10 ∷ []) rest)) (has_lf own rest 10)
+
+regrouped : (P : List (Line Text) → Type 0) (past : Past) (lines more : List (Line Text))
+    → P (past_lines past ++ lines ++ more) → P (past_lines past ++ (lines ++ more))
+regrouped P past lines more h = subst P (append_assoc (past_lines past) lines more) h
+
+ungrouped : (P : List (Line Text) → Type 0) (past : Past) (lines more : List (Line Text))
+    → P (past_lines past ++ (lines ++ more)) → P (past_lines past ++ lines ++ more)
+ungrouped P past lines more h = subst P (sym (append_assoc (past_lines past) lines more)) h
 
 -- if a text without line feeds is left, no lines are left
 none_left : (others : List (Line Text)) (left torn : Text) → ¬ (Contains left 10)
@@ -54,21 +62,25 @@ left_by_more lines old new left rest by next named =
     }
 
 -- a log of lines goes on from a line that is done
-go_on : (log : Text) (lines all : List (Line Text)) (old new : LiveState) (left rest torn : Text)
-    → IsLeftBy lines old → (next : DoesNext old new left rest) → IsLogOf log all torn
+go_on : (past : Past) (log : Text) (lines all : List (Line Text)) (old new : LiveState)
+    (left rest torn : Text) → IsLeftBy (past_lines past ++ lines) old
+    → (next : DoesNext old new left rest) → IsLogOf past log all torn
     → (others : List (Line Text)) → all ≡ lines ++ others → left ≡ lines_text_of others ++ torn
     → (more : List (Line Text)) × (all ≡ (lines ++ next.line ∷ []) ++ more)
     × (rest ≡ lines_text_of more ++ torn)
-go_on log lines all old new left rest torn by next is [] whole e =
+go_on past log lines all old new left rest torn by next is [] whole e =
     absurd (is.free (subst (λ (t : Text). Contains t 10) (sym next.parts ∙ e)
     (text_has_lf next.line rest)))
-go_on log lines all old new left rest torn by next is (first ∷ more) whole e =
+go_on past log lines all old new left rest torn by next is (first ∷ more) whole e =
     let behind = lines_text_of more ++ torn in
     let begins : left ≡ line_text_of first ++ behind =
     e ∙ append_assoc (line_text_of first) (lines_text_of more) torn in
     let same : first ≡ next.line =
     next.only first behind
-    (can_follow lines more first old by (subst AreLogged whole is.logged)) begins in (
+    (can_follow (past_lines past ++ lines) more first old by
+    (ungrouped AreLogged past lines (first ∷ more)
+    (subst (λ (l : List (Line Text)). AreLogged (past_lines past ++ l)) whole is.logged))) begins
+    in (
       more,
       whole ∙ ap (λ (l : Line Text). lines ++ l ∷ more) same
           ∙ sym (append_assoc lines (next.line ∷ []) more),
@@ -76,88 +88,103 @@ go_on log lines all old new left rest torn by next is (first ∷ more) whole e =
           ∙ ap (λ (l : Line Text). line_text_of l ++ behind) same),
     )
 
-text_more : (lines : List (Line Text)) (line : Line Text) (rest : Text)
-    → log_header ++ lines_text_of lines ++ (line_text_of line ++ rest)
-    ≡ log_header ++ lines_text_of (lines ++ line ∷ []) ++ rest
-text_more lines line rest =
-    sym (append_assoc (log_header ++ lines_text_of lines) (line_text_of line) rest)
+text_more : (head : Text) (lines : List (Line Text)) (line : Line Text) (rest : Text)
+    → head ++ lines_text_of lines ++ (line_text_of line ++ rest)
+    ≡ head ++ lines_text_of (lines ++ line ∷ []) ++ rest
+text_more head lines line rest =
+    sym (append_assoc (head ++ lines_text_of lines) (line_text_of line) rest)
     ∙ ap (λ (t : Text). t ++ rest)
-    (append_assoc log_header (lines_text_of lines) (line_text_of line)
-    ∙ ap (λ (t : Text). log_header ++ t) (whole lines))
+    (append_assoc head (lines_text_of lines) (line_text_of line)
+    ∙ ap (λ (t : Text). head ++ t) (whole lines))
   where
     whole : (ls : List (Line Text)) → lines_text_of ls ++ line_text_of line
         ≡ lines_text_of (ls ++ line ∷ [])
     whole ls = ap (λ (t : Text). lines_text_of ls ++ t) (sym (append-nil (line_text_of line)))
         ∙ sym (flat_map-append line_text_of ls (line ∷ []))
 
--- one line more
-pub done_more : (log : Text) (lines : List (Line Text)) (old new : LiveState) (left rest : Text)
-    → IsDoneUpTo log lines old left → (next : DoesNext old new left rest)
-    → IsDoneUpTo log (lines ++ next.line ∷ []) new rest
-done_more log lines old new left rest is next =
+-- a line has a byte at least
+pub fewer_left : (old new : LiveState) (left rest : Text) → DoesNext old new left rest
+    → 1 + length rest ≤ length left
+fewer_left old new left rest next =
     let line = next.line in
-    let more = logged_more lines line new.names is.logged next.said
+    let parts = ap length next.parts ∙ length-append (line_text_of line) rest in
+    let own = length-append (own_text_of line) (10 ∷ []) in
+    omega arith
+
+-- one line more
+pub done_more : (past : Past) (log : Text) (lines : List (Line Text)) (old new : LiveState)
+    (left rest : Text) → IsDoneUpTo past log lines old left → (next : DoesNext old new left rest)
+    → IsDoneUpTo past log (lines ++ next.line ∷ []) new rest
+done_more past log lines old new left rest is next =
+    let line = next.line in
+    let all = past_lines past ++ lines in
+    let more = logged_more all line new.names is.logged next.said
     (subst (λ (ns : List Text). AddsNames 16777216 ns
     (line.command ∷ []) new.names) is.left_by.names
     next.named)
     (subst (λ (st : State Text). Answers texts st line.session line.command line.reply)
     is.left_by.state next.answers) in
     record {
-      logged = more.0;
-      left_by = left_by_more lines old new left rest is.left_by next more.1;
-      parts = is.parts ∙ ap (λ (t : Text). log_header ++ lines_text_of lines ++ t) next.parts
-          ∙ text_more lines line rest;
+      is_past = is.is_past;
+      logged = regrouped AreLogged past lines (line ∷ []) more.0;
+      left_by = regrouped (λ (l : List (Line Text)). IsLeftBy l new) past lines (line ∷ [])
+          (left_by_more all old new left rest is.left_by next more.1);
+      parts = is.parts ∙ ap (λ (t : Text). head_of past ++ lines_text_of lines ++ t) next.parts
+          ∙ text_more (head_of past) lines line rest;
       only = λ all torn log_of. let (others, whole, e) = is.only all torn log_of in
-          go_on log lines all old new left rest torn is.left_by next log_of others whole e;
+          go_on past log lines all old new left rest torn is.left_by next log_of others whole e;
     }
 
 -- before the first line
-pub done_at_first : (log left : Text) (live : LiveState) → log ≡ log_header ++ left
-    → live.names ≡ [] → state_in live ≡ empty → calls_in live ≡ 0 → IsDoneUpTo log [] live left
-done_at_first log left live parts names state calls = record {
-  logged = nothing_logged;
-  left_by = record { names = names; state = state; calls = calls };
-  parts = parts;
-  only = λ all torn is. (
+pub done_at_first : (past : Past) (log left : Text) (live : LiveState)
+    → BeginsAfter past log left live → IsDoneUpTo past log [] live left
+done_at_first past log left live is = record {
+  is_past = is.is_past;
+  logged = subst AreLogged (sym (append-nil (past_lines past))) is.is_past.logged;
+  left_by = subst (λ (l : List (Line Text)). IsLeftBy l live)
+      (sym (append-nil (past_lines past))) is.left_by;
+  parts = is.parts ∙ ap (λ (t : Text). t ++ left) (sym (append-nil (head_of past)));
+  only = λ all torn log_of. (
     all,
     refl,
-    append_cancel_left log_header left (lines_text_of all ++ torn) (sym parts ∙ is.parts),
+    append_cancel_left (head_of past) left (lines_text_of all ++ torn)
+        (sym is.parts ∙ log_of.parts ∙ append_assoc (head_of past) (lines_text_of all) torn),
   );
 }
-  where
-    nothing_logged : AreLogged []
-    nothing_logged = record { legal = tt; said = tt; few_names = omega arith }
 
 -- if no line is left, the lines are those of the log
-pub done_all : (log left torn : Text) (lines all : List (Line Text)) (live : LiveState)
-    → IsDoneUpTo log lines live left → ¬ (Contains left 10) → IsLogOf log all torn → all ≡ lines
-done_all log left torn lines all live is free log_of =
+pub done_all : (past : Past) (log left torn : Text) (lines all : List (Line Text))
+    (live : LiveState) → IsDoneUpTo past log lines live left → ¬ (Contains left 10)
+    → IsLogOf past log all torn → all ≡ lines
+done_all past log left torn lines all live is free log_of =
     let (others, whole, e) = is.only all torn log_of in
     let none = none_left others left torn free e in
     whole ∙ ap (λ (l : List (Line Text)). lines ++ l) none ∙ append-nil lines
 
-pub log_done : (log left : Text) (lines : List (Line Text)) (live : LiveState)
-    → IsDoneUpTo log lines live left → ¬ (Contains left 10) → IsLogOf log lines left
-log_done log left lines live is free =
-    record { logged = is.logged; parts = is.parts; free = free }
+pub log_done : (past : Past) (log left : Text) (lines : List (Line Text)) (live : LiveState)
+    → IsDoneUpTo past log lines live left → ¬ (Contains left 10) → IsLogOf past log lines left
+log_done past log left lines live is free =
+    record { is_past = is.is_past; logged = is.logged; parts = is.parts; free = free }
 
-module _ (log left : Text) (lines : List (Line Text)) (live : LiveState)
-    (is : IsDoneUpTo log lines live left) (none : NothingFollows live left)
+module _ (past : Past) (log left : Text) (lines : List (Line Text)) (live : LiveState)
+    (is : IsDoneUpTo past log lines live left) (none : NothingFollows live left)
     (has : Contains left 10)
   where
     -- a line that can't be done can't be logged
-    pub differs_behind : DiffersBehind log lines
+    pub differs_behind : DiffersBehind past log lines
     differs_behind = record {
+      is_past = is.is_past;
       logged = is.logged;
       left = left;
       parts = is.parts;
       has_line = has;
       differs = λ line rest e logged.
-          none line rest (can_follow lines [] line live is.left_by logged) e;
+          none line rest (can_follow (past_lines past ++ lines) [] line live is.left_by
+          (ungrouped AreLogged past lines (line ∷ []) logged)) e;
     }
 
     -- and the log is no log of lines
-    pub no_log : (all : List (Line Text)) (torn : Text) → ¬ (IsLogOf log all torn)
+    pub no_log : (all : List (Line Text)) (torn : Text) → ¬ (IsLogOf past log all torn)
     no_log all torn log_of =
         let (others, whole, e) = is.only all torn log_of in by others whole e
       where
@@ -166,46 +193,55 @@ module _ (log left : Text) (lines : List (Line Text)) (live : LiveState)
         by [] whole e = log_of.free (subst (λ (t : Text). Contains t 10) e has)
         by (line ∷ others) whole e =
             none line (lines_text_of others ++ torn)
-            (can_follow lines others line live is.left_by (subst AreLogged whole log_of.logged))
+            (can_follow (past_lines past ++ lines) others line live is.left_by
+            (ungrouped AreLogged past lines (line ∷ others)
+            (subst (λ (l : List (Line Text)). AreLogged (past_lines past ++ l)) whole
+            log_of.logged)))
             (e ∙ append_assoc (line_text_of line) (lines_text_of others) torn)
 
--- each line has a byte at least
-pub few_lines : (lines : List (Line Text)) → length lines ≤ length (lines_text_of lines)
-few_lines [] = omega arith
-few_lines (line ∷ lines) =
-    omega (
-      arith,
-      few_lines lines,
-      length-append (line_text_of line) (lines_text_of lines),
-      length-append (own_text_of line) (10 ∷ []),
-    )
-
 -- what is left is a rest, and the part before it is counted
-pub sizes : (log left : Text) (lines : List (Line Text)) (live : LiveState)
-    → IsDoneUpTo log lines live left
-    → (length log ≡ length (log_header ++ lines_text_of lines) + length left)
-    × (length lines + 13 ≤ length (log_header ++ lines_text_of lines))
-sizes log left lines live is = (
-  ap length is.parts ∙ length-append (log_header ++ lines_text_of lines) left,
-  omega (arith, few_lines lines, length-append log_header (lines_text_of lines)),
-)
+pub sizes : (past : Past) (log left : Text) (lines : List (Line Text)) (live : LiveState)
+    → IsDoneUpTo past log lines live left
+    → length log ≡ length (head_of past ++ lines_text_of lines) + length left
+sizes past log left lines live is =
+    ap length is.parts ∙ length-append (head_of past ++ lines_text_of lines) left
 
 -- the cause of `Memory` or `Worn`
-pub room_cause : (log left : Text) (lines : List (Line Text)) (live : LiveState)
-    (fault : RestoreFault) → IsDoneUpTo log lines live left → Contains left 10 → IsOfRoom fault
-    → (fault ≡ Worn → IsWorn live) → IsRestoreCause log fault
-room_cause log left lines live Memory is has room worn = tt
-room_cause log left lines live Worn is has room worn =
+pub room_cause : (past : Past) (log left : Text) (lines : List (Line Text)) (live : LiveState)
+    (fault : RestoreFault) → IsDoneUpTo past log lines live left → Contains left 10
+    → IsOfRoom fault → (fault ≡ Worn → IsWorn live) → IsRestoreCause past log fault
+room_cause past log left lines live Memory is has room worn = tt
+room_cause past log left lines live Worn is has room worn =
     let long = worn refl in
     let calls = is.left_by.calls in
     let names = ap length is.left_by.names in
-    (lines, left, is.logged, is.parts, has, omega arith)
-room_cause log left lines live (Differs number count size) is has room worn = absurd room
+    (lines, left, is.logged, is.parts, (λ none. has), omega arith)
+room_cause past log left lines live (NoState number) is has room worn = absurd room
+room_cause past log left lines live (Differs number count size) is has room worn = absurd room
 
 -- what is restored
-pub restored_to : (log left : Text) (lines : List (Line Text)) (live : LiveState) (count : ℕ)
-    → IsDoneUpTo log lines live left → count ≡ length lines
-    → IsRestoredTo lines (record { live = live; lines = count; bytes = length log - length left })
-restored_to log left lines live count is counted =
-    let size = sizes log left lines live is in
-    record { left = is.left_by; lines_are = counted; bytes_are = omega arith }
+pub restored_to : (past : Past) (log left first : Text) (lines : List (Line Text))
+    (live : LiveState) (count : ℕ) → IsDoneUpTo past log lines live left
+    → log ≡ head_of past ++ first → count ≡ length lines
+    → IsRestoredTo past lines (record {
+      live = live;
+      lines = count;
+      head = length log - length first;
+      bytes = length log - length left;
+    })
+restored_to past log left first lines live count is begins counted =
+    let size = sizes past log left lines live is in
+    let whole = ap length begins ∙ length-append (head_of past) first in
+    record {
+      left = is.left_by;
+      lines_are = counted;
+      head_is = omega arith;
+      bytes_are = omega arith;
+    }
+
+-- a fault of room says nothing of bytes
+pub room_within : (size : ℕ) (fault : RestoreFault) → IsOfRoom fault → IsWithin size fault
+room_within size Memory room = tt
+room_within size Worn room = tt
+room_within size (NoState number) room = tt
+room_within size (Differs number count bytes) room = absurd room

@@ -17,6 +17,8 @@ pub data Operation : Type 0 where
   Revert : Operation
   -- the log was copied, and the copy synced, under another name; of a file that had it no byte was changed
   Copy : Operation
+  -- these bytes took the place of the log's, all at once, and are on the disk
+  Replace : Text → Operation
   -- these bytes were written to the output
   Write : Text → Operation
   -- an operation of the log, or of the output, failed and changed neither
@@ -35,6 +37,7 @@ held_then (Append bytes) held = record held { all = held.all ++ bytes }
 held_then (Cut size) held = record { synced = take size held.synced; all = take size held.all }
 held_then Sync held = record { synced = held.all; all = held.all }
 held_then Revert held = record { synced = held.synced; all = held.synced }
+held_then (Replace bytes) held = record { synced = bytes; all = bytes }
 held_then other held = held
 
 -- what the log holds after these operations, of which the newest comes first

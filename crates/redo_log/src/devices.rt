@@ -1,6 +1,6 @@
-ghost use Rattle.std.specs.Prelude.{◌≡◌, ◌⊎◌, ◌≤◌, ◌∷◌, List, length, IfOk, IfErr, OnOk, OnErr};
+ghost use Rattle.std.specs.Prelude.{◌≡◌, ◌⊎◌, ◌≤◌, ◌∷◌, List, length, IfOk, IfErr, OnOk, OnErr, if◌then◌else◌};
 ghost use Rattle.redo_model.specs.Names.{Text};
-ghost use Rattle.redo_log.specs.Operations.{Operation, Read, Append, Cut, Sync, Revert, Copy, Write, LogFailed, OutputFailed, IsPrefix, held_after};
+ghost use Rattle.redo_log.specs.Operations.{Operation, Read, Append, Cut, Sync, Revert, Copy, Replace, Write, LogFailed, OutputFailed, IsPrefix, held_after};
 ghost use Rattle.redo_log.specs.declared.devices.Unread.TheVariants.{Memory};
 
 use redo_whole::WriteFault;
@@ -44,8 +44,8 @@ pub trait Devices {
     /// What was done so far, the newest operation first.
     ghost history: { Self → List Operation };
 
-    /// All bytes of the log. If they don't begin as `header` does, the first ones may be given alone.
-    fn read(&mut self, alloc: Global, header: &[u8]) -> Result<Vec<u8>, Unread>
+    /// All bytes of the log. If they begin with no header of a log, the first ones may be given alone.
+    fn read(&mut self, alloc: Global) -> Result<Vec<u8>, Unread>
         ensures read { IfOk result
             (λ bytes. history self.new ≡ Read bytes.items ∷ history self.old) }
         ensures err { IfErr result (λ fault. (history self.new ≡ LogFailed ∷ history self.old)
@@ -79,6 +79,14 @@ pub trait Devices {
     fn copy(&mut self) -> Result<(), LogFault>
         ensures copied { OnOk result (history self.new ≡ Copy ∷ history self.old) }
         ensures err { OnErr result (history self.new ≡ LogFailed ∷ history self.old) };
+
+    /// Puts other bytes in the place of the log's, all at once: a kill leaves the old log or the new one, and no part of
+    /// either. Returns whether it did; if not, the log is as it was. A failure is one to sync the new name to the disk.
+    fn replace(&mut self, bytes: &[u8]) -> Result<bool, LogFault>
+        ensures replaced { IfOk result (λ is. history self.new ≡ (if is
+            then Replace bytes.now ∷ history self.old else history self.old)) }
+        ensures err { OnErr result
+            (history self.new ≡ LogFailed ∷ Replace bytes.now ∷ history self.old) };
 
     /// Tells the user that a damaged log was cut to this many lines and bytes.
     fn tell_cut(&mut self, lines: usize, bytes: usize)

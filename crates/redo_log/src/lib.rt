@@ -8,7 +8,7 @@ mod record;
 mod restoring;
 
 pub use devices::{Devices, LogFault, Unread};
-pub use laws::{cut_log, one_log};
+pub use laws::{cut_log, one_log, one_past};
 pub use memory::{Failing, MemoryDevices};
 pub use record::Record;
-pub use restoring::{LOG_HEADER, RestoreFault, Restored, restore};
+pub use restoring::{DUMP_HEADER, LOG_HEADER, RestoreFault, Restored, restore};

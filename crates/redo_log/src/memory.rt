@@ -7,6 +7,7 @@ use crate::record::Record;
 use redo_whole::WriteFault;
 use std::alloc::Global;
 use std::marker::Model;
+use std::mem::swap;
 
 /// Which operation fails, and how.
 #[derive(Clone, Copy, Debug, PartialEq, Eq)]
@@ -15,7 +16,7 @@ pub struct Failing {
     pub number: usize,
     /// How many bytes an append or a write takes before it fails.
     pub most: usize,
-    /// Whether a sync that fails cuts off what had not been synced.
+    /// Whether a sync that fails cuts off what had not been synced, and a replacing that fails has replaced the log.
     pub reverts: bool,
 }
 
@@ -95,6 +96,8 @@ pub struct MemoryDevices {
     /// How many bytes of the log were synced since it was read.
     synced: usize,
     copy: Vec<u8>,
+    /// Memory for what replaces the log.
+    other: Vec<u8>,
     output: Vec<u8>,
     done: Record,
 }
@@ -125,6 +128,7 @@ impl MemoryDevices {
             log,
             synced: 0,
             copy: Vec::new(alloc),
+            other: Vec::new(alloc),
             output: Vec::new(alloc),
             done: Record::new(),
         }
@@ -165,7 +169,7 @@ impl MemoryDevices {
 impl Devices for MemoryDevices {
     ghost history = { λ done. done };
 
-    fn read(&mut self, alloc: Global, _header: &[u8]) -> Result<Vec<u8>, Unread> {
+    fn read(&mut self, alloc: Global) -> Result<Vec<u8>, Unread> {
         if self.counted.fails() {
             self.done.log_failed();
             return Err(Unread::Fault(LogFault::Read));
@@ -241,6 +245,25 @@ impl Devices for MemoryDevices {
         }
         self.done.copied();
         Ok(())
+    }
+
+    fn replace(&mut self, bytes: &[u8]) -> Result<bool, LogFault> {
+        let fails = self.counted.fails();
+        if fails && !self.counted.failing.reverts {
+            return Ok(false);
+        }
+        self.other.clear();
+        if self.other.extend_from_slice(bytes).is_err() {
+            return Ok(false);
+        }
+        swap(&mut self.log, &mut self.other);
+        self.synced = self.log.len();
+        self.done.replaced(bytes);
+        if fails {
+            self.done.log_failed();
+            return Err(LogFault::Write);
+        }
+        Ok(true)
     }
 
     fn tell_cut(&mut self, _lines: usize, _bytes: usize) {}

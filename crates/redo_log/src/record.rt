@@ -2,7 +2,7 @@
 ghost use Rattle.std.specs.Prelude.{◌≡◌, List, [], ◌∷◌};
 ghost use Rattle.std.specs.Borrow.{ftrue};
 ghost use Rattle.std.specs.Coded.{coded_list};
-ghost use Rattle.redo_log.specs.Operations.{Operation, Read, Append, Cut, Sync, Revert, Copy, Write, LogFailed, OutputFailed};
+ghost use Rattle.redo_log.specs.Operations.{Operation, Read, Append, Cut, Sync, Revert, Copy, Replace, Write, LogFailed, OutputFailed};
 ghost use Rattle.redo_log.specs.Inside.Noting.{noted, operation_code};
 
 use std::marker::{Model, PhantomData};
@@ -94,5 +94,12 @@ impl Record {
         ensures { self.new.operations ≡ OutputFailed ∷ self.old.operations }
     {
         self.note(&[8, 0], &[]);
+    }
+
+    /// These bytes took the place of the log's.
+    pub fn replaced(&mut self, bytes: &[u8])
+        ensures { self.new.operations ≡ Replace bytes.now ∷ self.old.operations }
+    {
+        self.note(&[9, 0], bytes);
     }
 }

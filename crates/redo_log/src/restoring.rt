@@ -1,23 +1,25 @@
-ghost use Rattle.std.specs.Prelude.{◌≡◌, ◌<◌, ◌≤◌, ◌++◌, ℕ, List, [], IfOk, IfErr, IfSome, MatchOption, IsSomeAnd};
+ghost use Rattle.std.specs.Prelude.{◌≡◌, ◌==◌, ◌<◌, ◌≤◌, ◌+◌, ◌-◌, ◌++◌, ℕ, List, None, length, filter, IfOk, IfErr, IfSome, MatchOption, IsSomeAnd};
 ghost use Rattle.redo_model.specs.Names.{Text};
-ghost use Rattle.redo_model.specs.State.{empty};
 ghost use Rattle.redo_model.specs.Command.{Command};
 ghost use Rattle.redo_model.specs.History.{Line};
 ghost use Rattle.redo_text.specs.Grammar.{IsCommandLine};
-ghost use Rattle.redo_live.specs.Inside.LiveState.{state_in, calls_in};
 ghost use Rattle.redo_live.specs.Inside.Told.{IsWorn};
 ghost use Rattle.redo_history.specs.Inside.HistoryFaults.{IsCutAt};
-ghost use Rattle.redo_log.specs.Logs.{log_header, IsLogOf, IsTornHeader};
-ghost use Rattle.redo_log.specs.Restores.{IsRestored, IsRestoredTo, IsRestoreCause, IsOfRoom};
-ghost use Rattle.redo_log.specs.Inside.Steps.{AsksFor, DoesNext, NothingFollows};
+ghost use Rattle.redo_log.specs.Logs.{dump_header, Past, HasPast, IsLogOf, IsTornHeader};
+ghost use Rattle.redo_log.specs.Restores.{head_lines, IsRestored, IsRestoredTo, IsRestoreCause, IsOfRoom, IsWithin};
+ghost use Rattle.redo_log.specs.Inside.Steps.{AsksFor, BeginsAfter, DoesNext, NothingFollows};
 
+use redo_dump::{LoadFault, Loaded, load};
 use redo_history::{cut_at, cut_at_arrow, cut_at_space, session_of};
 use redo_live::{Live, Unanswered};
 use std::alloc::{AllocError, Global};
 use thiserror::Error;
 
-/// The first line of a log.
+/// The first line of a log that begins with no dump.
 pub const LOG_HEADER: &[u8] = b"redodb-log 1\n";
+
+/// The first line of a log that begins with a dump.
+pub const DUMP_HEADER: &[u8] = b"redodb-log 2\n";
 
 /// How many sessions a log has at most.
 const MOST_SESSIONS: u16 = 65_535;
@@ -26,9 +28,11 @@ const MOST_SESSIONS: u16 = 65_535;
 #[derive(Drop)]
 pub struct Restored {
     pub live: Live,
-    /// How many lines were done again.
+    /// How many lines were done again: those after the dump, if there is one.
     pub lines: usize,
-    /// How many bytes of the log they and the header have. The bytes after them were torn.
+    /// How many bytes of the log come before these lines.
+    pub head: usize,
+    /// How many bytes of the log they have, with the head. The bytes after them were torn.
     pub bytes: usize,
 }
 
@@ -40,8 +44,13 @@ pub enum RestoreFault {
     /// The log has more lines than the database answers.
     #[error("worn")]
     Worn,
+    /// This line of the log isn't that of a dump. Lines are counted from 1, and the header is line 1.
+    #[error("line {line}: no state")]
+    State {
+        line: usize,
+    },
     /// This line of the log isn't the database's answer, or it isn't the header. Lines are counted from 1, and the
-    /// header is line 1; `lines` lines after the header, and `bytes` bytes, come before it.
+    /// header is line 1; `lines` lines of sessions, and `bytes` bytes in all, come before it.
     #[error("line {line} differs")]
     Differs {
         line: usize,
@@ -123,33 +132,50 @@ impl Again {
         }
     }
 
-    /// Does all lines of a log again, which come after its header, by a database that knows nothing yet.
+    /// Does again all lines of a log, the first of which has this number.
     fn redo_lines(
         &mut self,
         alloc: Global,
+        first: usize,
         log: &[u8],
         lines: &[u8],
     ) -> Result<Extent, RestoreFault>
-        requires log { log.now ≡ log_header ++ lines.now }
-        requires names { self.old.live.names ≡ [] }
-        requires state { state_in self.old.live ≡ empty }
-        requires calls { calls_in self.old.live ≡ 0 }
-        ensures restored { IfOk result (λ extent. (done : List (Line Text)) × (torn : Text)
-            × IsLogOf log.now done torn × IsRestoredTo done
-            record { live = self.new.live; lines = extent.lines; bytes = extent.bytes }) }
-        ensures only { (done : List (Line Text)) (torn : Text) → IsLogOf log.now done torn
-            → IfErr result IsOfRoom }
-        ensures same { (done : List (Line Text)) (torn : Text) → IsLogOf log.now done torn
-            → IfOk result (λ extent. IsRestoredTo done
-            record { live = self.new.live; lines = extent.lines; bytes = extent.bytes }) }
-        ensures cause { IfErr result (IsRestoreCause log.now) }
+        requires within { length lines.now ≤ length log.now }
+        requires first { first ≤ length log.now + 1 }
+        ensures within { IfOk result (λ extent. extent.bytes ≤ length log.now) }
+        ensures cut { IfErr result (IsWithin (length log.now)) }
+        ensures restored { IfOk result (λ extent. (past : Past)
+            → BeginsAfter past log.now lines.now self.old.live
+            → (done : List (Line Text)) × (torn : Text)
+            × IsLogOf past log.now done torn × IsRestoredTo past done
+            record {
+              live = self.new.live;
+              lines = extent.lines;
+              head = length log.now - length lines.now;
+              bytes = extent.bytes;
+            }) }
+        ensures only { (past : Past) (done : List (Line Text)) (torn : Text)
+            → BeginsAfter past log.now lines.now self.old.live
+            → IsLogOf past log.now done torn → IfErr result IsOfRoom }
+        ensures same { (past : Past) (done : List (Line Text)) (torn : Text)
+            → BeginsAfter past log.now lines.now self.old.live
+            → IsLogOf past log.now done torn → IfOk result (λ extent. IsRestoredTo past done
+            record {
+              live = self.new.live;
+              lines = extent.lines;
+              head = length log.now - length lines.now;
+              bytes = extent.bytes;
+            }) }
+        ensures cause { IfErr result (λ fault. (past : Past)
+            → BeginsAfter past log.now lines.now self.old.live
+            → first ≡ head_lines past + 1 → IsRestoreCause past log.now fault) }
     {
         let mut left = lines;
         let mut count = 0;
         'lines: while let Some((text, _)) = cut_at(left, b'\n') {
             let Some(rest) = self.redo(alloc, text, left)? else {
                 return Err(RestoreFault::Differs {
-                    line: count + 2,
+                    line: first + count,
                     lines: count,
                     bytes: log.len() - left.len(),
                 });
@@ -164,45 +190,101 @@ impl Again {
     }
 }
 
-/// Does again the lines of a log, without its header.
-fn restore_lines(alloc: Global, log: &[u8], lines: &[u8]) -> Result<Restored, RestoreFault>
-    requires { log.now ≡ log_header ++ lines.now }
-    ensures restored { IfOk result (λ restored. (done : List (Line Text)) × (torn : Text)
-        × IsLogOf log.now done torn × IsRestoredTo done restored) }
-    ensures only { (done : List (Line Text)) (torn : Text) → IsLogOf log.now done torn
-        → IfErr result IsOfRoom }
-    ensures same { (done : List (Line Text)) (torn : Text) → IsLogOf log.now done torn
-        → IfOk result (IsRestoredTo done) }
-    ensures cause { IfErr result (IsRestoreCause log.now) }
+/// How many lines end in the bytes.
+fn lines_in(bytes: &[u8]) -> usize
+    ensures count { result ≡ length (filter (λ byte. byte == 10) bytes.now) }
+    ensures few { result ≤ length bytes.now }
 {
+    bytes.iter().filter(|byte| **byte == b'\n').count()
+}
+
+/// Does again the lines that follow the head of a log, after which the database knows this.
+fn restore_lines(
+    alloc: Global,
+    live: Live,
+    log: &[u8],
+    lines: &[u8],
+) -> Result<Restored, RestoreFault>
+    requires { length lines.now ≤ length log.now }
+    ensures within { IfOk result (λ restored. restored.bytes ≤ length log.now) }
+    ensures cut { IfErr result (IsWithin (length log.now)) }
+    ensures restored { IfOk result (λ restored. (past : Past)
+        → BeginsAfter past log.now lines.now live → (done : List (Line Text)) × (torn : Text)
+        × IsLogOf past log.now done torn × IsRestoredTo past done restored) }
+    ensures only { (past : Past) (done : List (Line Text)) (torn : Text)
+        → BeginsAfter past log.now lines.now live
+        → IsLogOf past log.now done torn → IfErr result IsOfRoom }
+    ensures same { (past : Past) (done : List (Line Text)) (torn : Text)
+        → BeginsAfter past log.now lines.now live
+        → IsLogOf past log.now done torn → IfOk result (IsRestoredTo past done) }
+    ensures cause { IfErr result (λ fault. (past : Past)
+        → BeginsAfter past log.now lines.now live → IsRestoreCause past log.now fault) }
+{
+    let head = log.len() - lines.len();
+    let first = lines_in(&log[..head]) + 1;
     let mut again = Again {
-        live: Live::new(alloc)?,
+        live,
         said: Vec::new(alloc),
         logged: Vec::new(alloc),
     };
-    let extent = again.redo_lines(alloc, log, lines)?;
+    let extent = again.redo_lines(alloc, first, log, lines)?;
     Ok(Restored {
         live: again.live,
         lines: extent.lines,
+        head,
         bytes: extent.bytes,
     })
 }
 
-/// Does a log's lines again.
+/// Does again the lines of a log that begins with a dump, which is in `text`.
+fn restore_dumped(alloc: Global, log: &[u8], text: &[u8]) -> Result<Restored, RestoreFault>
+    requires { log.now ≡ dump_header ++ text.now }
+    ensures within { IfOk result (λ restored. restored.bytes ≤ length log.now) }
+    ensures cut { IfErr result (IsWithin (length log.now)) }
+    ensures restored { IfOk result (λ restored. (past : Past) → HasPast past log.now
+        → IsRestored past log.now restored) }
+    ensures only { (past : Past) (lines : List (Line Text)) (torn : Text)
+        → IsLogOf past log.now lines torn → IfErr result IsOfRoom }
+    ensures same { (past : Past) (lines : List (Line Text)) (torn : Text)
+        → IsLogOf past log.now lines torn → IfOk result (IsRestoredTo past lines) }
+    ensures cause { IfErr result (λ fault. (past : Past) → HasPast past log.now
+        → IsRestoreCause past log.now fault) }
+{
+    match load(alloc, text) {
+        Ok(Loaded { live, bytes }) => restore_lines(alloc, live, log, &text[bytes..]),
+        Err(LoadFault::Memory) => Err(RestoreFault::Memory),
+        Err(LoadFault::Worn) => Err(RestoreFault::Worn),
+        // the header comes before the dump
+        Err(LoadFault::Line(line)) => Err(RestoreFault::State {
+            line: line.saturating_add(1),
+        }),
+    }
+}
+
+/// Does a log's lines again. What is promised of a log that begins with a dump rests on lines that left the state of the
+/// dump: nothing is said of a dump that no lines can leave.
 pub fn restore(alloc: Global, log: &[u8]) -> Result<Restored, RestoreFault>
+    ensures within { IfOk result (λ restored. restored.bytes ≤ length log.now) }
+    ensures cut { IfErr result (IsWithin (length log.now)) }
+
     // The lines of a log are done again; what follows its last LF was torn.
-    ensures restored { IfOk result (IsRestored log.now) }
+    ensures restored { IfOk result (λ restored. (past : Past) → HasPast past log.now
+        → IsRestored past log.now restored) }
     // A log is refused only by `Memory` or `Worn`; else all its lines are restored.
-    ensures only { (lines : List (Line Text)) (torn : Text) → IsLogOf log.now lines torn
-        → IfErr result IsOfRoom }
-    ensures same { (lines : List (Line Text)) (torn : Text) → IsLogOf log.now lines torn
-        → IfOk result (IsRestoredTo lines) }
+    ensures only { (past : Past) (lines : List (Line Text)) (torn : Text)
+        → IsLogOf past log.now lines torn → IfErr result IsOfRoom }
+    ensures same { (past : Past) (lines : List (Line Text)) (torn : Text)
+        → IsLogOf past log.now lines torn → IfOk result (IsRestoredTo past lines) }
     ensures begun { IsTornHeader log.now → IfErr result IsOfRoom }
     // Each fault has its cause.
-    ensures cause { IfErr result (IsRestoreCause log.now) }
+    ensures cause { IfErr result (λ fault. (past : Past) → HasPast past log.now
+        → IsRestoreCause past log.now fault) }
 {
     if let Some(lines) = log.strip_prefix(LOG_HEADER) {
-        return restore_lines(alloc, log, lines);
+        return restore_lines(alloc, Live::new(alloc)?, log, lines);
+    }
+    if let Some(text) = log.strip_prefix(DUMP_HEADER) {
+        return restore_dumped(alloc, log, text);
     }
     if !b"redodb-log 1".starts_with(log) {
         return Err(RestoreFault::Differs {
@@ -214,6 +296,7 @@ pub fn restore(alloc: Global, log: &[u8]) -> Result<Restored, RestoreFault>
     Ok(Restored {
         live: Live::new(alloc)?,
         lines: 0,
+        head: 0,
         bytes: 0,
     })
 }

@@ -1,6 +1,6 @@
 -- The sessions that a log left end, one after the other, and then nothing is held.
 use Rattle.std.proofs.Common.{◌≡◌, ℕ, ◌+◌, ◌<◌, ◌≤◌, false, cond, map, List, [], ◌∷◌, ◌++◌, Some, refl, sym, ap, ◌∙◌, subst, append-nil, append_assoc, eqb, inl, inr, arith}
-use Rattle.std.specs.Prelude.{◌↔◌, Contains, codes, decimal}
+use Rattle.std.specs.Prelude.{◌↔◌, Contains, IfSome, None, Option, codes, decimal}
 use Rattle.std.specs.List.{AllByRecursion, flat_map}
 use Rattle.std.specs.List.Sorted.{IsStrictlyIncreasing}
 use Rattle.std.specs.Cmp.Lexicographic.{nat_list_cmp_total}
@@ -24,13 +24,15 @@ use Rattle.redo_live.specs.Inside.LiveState.{LiveState, state_in}
 use Rattle.redo_live.specs.Inside.Told.{EndsSession}
 use Rattle.redo_live.specs.Lines.{lines_text_of}
 use Rattle.redo_live.proofs.EndingAll.{held_out, built_out}
-use Rattle.redo_log.specs.Logs.{AreLogged}
+use Rattle.redo_dump.specs.Dumps.{HasSessions, IsStateOver, dump_of}
+use Rattle.redo_log.specs.Logs.{dump_header, head_of, AreLogged, IsPast}
 use Rattle.redo_talk.specs.Rounds.{Round, AreEnds, AreRounds, end_word, end_text_of, lines_in}
 use Rattle.redo_talk.specs.Talks.{HoldsNothing}
 use Rattle.redo_talk.specs.Inside.LeftBy.{IsLeftBy}
 use Rattle.redo_talk.specs.Inside.Opening.{EndsAll}
 use Rattle.redo_talk.specs.Inside.Places.{known_of}
 use Rattle.redo_talk.specs.Inside.Steps.{Known, LeadsTo, Ending, AreSteps}
+use Rattle.redo_talk.proofs.LawfulLines.{rounds_said, rounds_names}
 use Rattle.redo_talk.proofs.Led.{ending_leads, ending_round, steps_lead}
 use Rattle.redo_talk.proofs.Steps.{held_are_known}
 
@@ -137,7 +139,7 @@ leads_to live before is = record {
   legal = is.legal;
   names_are = is.names_are;
   state_is = is.state_is;
-  calls_are = is.calls_are;
+  few_calls = is.few_calls;
 }
 
 module _ (before : List (Line Text)) (old new : LiveState) (left : IsLeftBy old before)
@@ -212,31 +214,70 @@ module _ (before : List (Line Text)) (old new : LiveState) (left : IsLeftBy old 
           built_out sessions (state_in old) t (builds t),
         ))
 
+    are_ends : AreEnds before so_far.rounds
+    are_ends = endings_are_ends before (known_of old) (known_of new) so_far.rounds
+        (leads_to old before left) so_far.endings
+
+    -- the lines of the ends can be logged, too
+    ends_logged : AreLogged before → AreLogged (before ++ lines_in so_far.rounds)
+    ends_logged logged =
+        let rounds = ends_are_rounds before so_far.rounds are_ends in
+        record {
+          legal = led.legal;
+          said = rounds_said before so_far.rounds rounds logged.said;
+          few_names = rounds_names before so_far.rounds rounds logged.few_names;
+        }
+
     -- all of them ended
-    pub all_ended : IsStrictlyIncreasing sessions
+    pub all_ended : AreLogged before → IsStrictlyIncreasing sessions
         → ((s : ℕ) → Contains sessions s
         ↔ ((t : Text) × ((state_in old).locks.holder t ≡ Some s)))
         → ((t : Text) (s : ℕ) → target_state (state_in old).records t ≡ Building s
         → Contains sessions s)
         → EndsAll before new logged middle
-    all_ended ascending holders builds = record {
-      former = record { lines = before; ends = so_far.rounds };
-      lines_are = refl;
+    all_ended are_logged ascending holders builds = record {
+      ends = so_far.rounds;
       ended = record {
         sessions = sessions;
         holders = λ s. subst (λ (st : State Text). Contains sessions s
             ↔ ((t : Text) × (st.locks.holder t ≡ Some s))) left.state_is (holders s);
         ascending = ascending;
         asked = so_far.asked;
-        ends = endings_are_ends before (known_of old) (known_of new) so_far.rounds
-            (leads_to old before left) so_far.endings;
+        are_ends = are_ends;
         nothing = nothing_held (λ t s is. (holders s).1 (t, is)) builds;
       };
       left = record {
         legal = led.legal;
         names_are = led.names_are;
         state_is = led.state_is;
-        calls_are = led.calls_are;
+        few_calls = led.few_calls;
       };
+      logged_lines = ends_logged are_logged;
       logs = so_far.logs;
     }
+
+-- only sessions that a log can have hold something after its lines
+pub has_sessions : (lines : List (Line Text)) → AreLogged lines
+    → HasSessions (left_by texts empty lines)
+has_sessions lines logged t =
+    by ((left_by texts empty lines).locks.holder t) (holder_below lines logged t)
+  where
+    by : (o : Option ℕ) → ((s : ℕ) → o ≡ Some s → s < 65535) → IfSome o (λ s. s < 65535)
+    by None below = tt
+    by (Some s) below = below s refl
+
+-- a dump of what these lines left takes their place
+pub dump_is : (live : LiveState) (log : Text)
+    → log ≡ dump_header ++ dump_of live.names (state_in live)
+    → (HasSessions (state_in live) → IsStateOver live.names (state_in live))
+    → (before : List (Line Text)) → AreLogged before → IsLeftBy live before
+    → IsPast (Some before) × (log ≡ head_of (Some before))
+dump_is live log e over before logged left = (
+  record {
+    logged = logged;
+    dumped = subst (λ (ns : List Text). IsStateOver ns (left_by texts empty before)) left.names_are
+        (subst (IsStateOver live.names) left.state_is
+        (over (subst HasSessions (sym left.state_is) (has_sessions before logged))));
+  },
+  e ∙ (λ i. dump_header ++ dump_of (left.names_are i) (left.state_is i)),
+)

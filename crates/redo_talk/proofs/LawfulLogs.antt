@@ -1,5 +1,5 @@
 -- Logs without the lines that change nothing, and what is left of them.
-use Rattle.std.proofs.Common.{◌≡◌, ◌⊎◌, ◌<◌, ◌≤◌, ◌^◌, Bool, true, false, cond, List, [], ◌∷◌, ◌++◌, length, refl, sym, ap, ◌∙◌, subst, append-nil, append_assoc, length-append, inl, inr, arith}
+use Rattle.std.proofs.Common.{◌≡◌, ◌⊎◌, ◌+◌, ◌<◌, ◌≤◌, ◌^◌, Bool, true, false, cond, List, [], ◌∷◌, ◌++◌, length, refl, sym, ap, ◌∙◌, subst, append-nil, append_assoc, inl, inr, arith}
 use Rattle.std.specs.Prelude.{Contains}
 use Rattle.std.specs.List.{AllByRecursion, flat_map}
 use Rattle.std.proofs.lemmas.Grind.{flat_map-append}
@@ -21,9 +21,9 @@ use Rattle.redo_history.proofs.KnownNames.{IsKnown}
 use Rattle.redo_history.proofs.TextCuts.{has_lf}
 use Rattle.redo_live.specs.Lines.{lines_text_of, names_after}
 use Rattle.redo_live.proofs.Lines.{all_both}
-use Rattle.redo_log.specs.Logs.{log_header, AreLogged, IsLogOf, IsTornHeader}
+use Rattle.redo_log.specs.Logs.{Past, past_lines, head_of, AreLogged, IsLogOf, IsPast}
 use Rattle.redo_log.specs.Operations.{IsPrefix}
-use Rattle.redo_log.proofs.CutLogs.{cut_log}
+use Rattle.redo_log.proofs.CutLogs.{IsCutLog, cut_behind}
 use Rattle.redo_talk.proofs.LawfulLines.{OfNames, own_names, all_parts, all_names, names_known}
 
 legal_parts : (st : State Text) (lines more : List (Line Text)) → LegalFrom texts st (lines ++ more)
@@ -45,6 +45,23 @@ all_changing P st (line ∷ lines) h =
     one_changing P (changes st.records line.command line.reply) line
     (changing_from texts (after texts st line.session line.command) lines) h.0
     (all_changing P (after texts st line.session line.command) lines h.1)
+
+one_fewer : (b : Bool) (line : Line Text) (lines : List (Line Text))
+    → length (cond b (line ∷ []) [] ++ lines) ≤ length lines + 1
+one_fewer true line lines = omega arith
+one_fewer false line lines = omega arith
+
+-- no more lines change something than there are
+pub changing_fewer : (st : State Text) (lines : List (Line Text))
+    → length (changing_from texts st lines) ≤ length lines
+changing_fewer st [] = omega arith
+changing_fewer st (line ∷ lines) =
+    let next = after texts st line.session line.command in
+    omega (
+      arith,
+      one_fewer (changes st.records line.command line.reply) line (changing_from texts next lines),
+      changing_fewer next lines,
+    )
 
 -- these lines, and those of the others that change something
 abbrev pub and_changing : List (Line Text) → List (Line Text) → List (Line Text)
@@ -90,11 +107,10 @@ module _ (before more : List (Line Text)) where
       ∙ sym (left_by-append texts empty before more)
 
 -- the lines of a first part are the first lines
-pub changing_first : (before first others : List (Line Text))
-    → (back : List (Line Text)) × (and_changing before (first ++ others)
-    ≡ and_changing before first ++ back)
-changing_first before first others =
-    let st = left_by texts empty before in
+pub changing_first : (st : State Text) (before first others : List (Line Text))
+    → (back : List (Line Text)) × (before ++ changing_from texts st (first ++ others)
+    ≡ (before ++ changing_from texts st first) ++ back)
+changing_first st before first others =
     let back = changing_from texts (left_by texts st first) others in (
       back,
       ap (λ ls. before ++ ls) (changing_from-append texts st first others)
@@ -102,18 +118,19 @@ changing_first before first others =
     )
 
 -- the text of a log
-pub log_text : (lines more : List (Line Text))
-    → log_header ++ lines_text_of lines ++ lines_text_of more
-    ≡ log_header ++ lines_text_of (lines ++ more)
-log_text lines more =
-    append_assoc log_header (lines_text_of lines) (lines_text_of more)
-    ∙ ap (λ t. log_header ++ t) (sym (flat_map-append line_text_of lines more))
+pub log_text : (head : Text) (lines more : List (Line Text))
+    → head ++ lines_text_of lines ++ lines_text_of more ≡ head ++ lines_text_of (lines ++ more)
+log_text head lines more =
+    append_assoc head (lines_text_of lines) (lines_text_of more)
+    ∙ ap (λ t. head ++ t) (sym (flat_map-append line_text_of lines more))
 
-pub whole_log : (bytes : Text) (lines : List (Line Text)) → AreLogged lines
-    → bytes ≡ log_header ++ lines_text_of lines → IsLogOf bytes lines []
-whole_log bytes lines is e = record {
+pub whole_log : (past : Past) (bytes : Text) (lines : List (Line Text)) → IsPast past
+    → AreLogged (past_lines past ++ lines) → bytes ≡ head_of past ++ lines_text_of lines
+    → IsLogOf past bytes lines []
+whole_log past bytes lines is_past is e = record {
+  is_past = is_past;
   logged = is;
-  parts = e ∙ sym (append-nil (log_header ++ lines_text_of lines));
+  parts = e ∙ sym (append-nil (head_of past ++ lines_text_of lines));
   free = contains_none 10;
 }
 
@@ -136,41 +153,27 @@ first_of (x ∷ a) b (y ∷ c) d e =
       | inr h ↦ inr (h.0, λ i. sym head i ∷ h.1 i)
     ]
 
--- a log that has the text of these lines is no beginning of the header
-pub no_torn_header : (bytes : Text) (lines : List (Line Text))
-    → IsPrefix (log_header ++ lines_text_of lines) bytes → ¬ (IsTornHeader bytes)
-no_torn_header bytes lines (rest, e) (more, torn) =
-    let long = ap length e in
-    let short = ap length torn in
-    absurd (omega (
-      arith,
-      long,
-      short,
-      length-append (log_header ++ lines_text_of lines) rest,
-      length-append log_header (lines_text_of lines),
-      length-append bytes more,
-    ))
-
 -- of a log that has the text of the first lines, the lines begin with them
-pub cut_behind : (bytes torn : Text) (lines back first others : List (Line Text))
-    → IsLogOf bytes lines torn → lines ++ back ≡ first ++ others
-    → IsPrefix (log_header ++ lines_text_of first) bytes
+pub begins_with : (past : Past) (bytes torn : Text) (lines back first others : List (Line Text))
+    → IsLogOf past bytes lines torn → lines ++ back ≡ first ++ others
+    → IsPrefix (head_of past ++ lines_text_of first) bytes
     → (more : List (Line Text)) × (lines ≡ first ++ more)
-cut_behind bytes torn lines back first others is e (rest, begins) =
+begins_with past bytes torn lines back first others is e (rest, begins) =
     by (first_of lines back first others e)
   where
     by_more : (m : List (Line Text)) → first ≡ lines ++ m
         → (more : List (Line Text)) × (lines ≡ first ++ more)
     by_more [] same = ([], sym (append-nil lines) ∙ sym same ∙ sym (append-nil first))
     by_more (line ∷ ls) same =
+        let head = head_of past in
         let behind = lines_text_of ls in
-        let whole : log_header ++ lines_text_of lines ++ torn
-        ≡ log_header ++ lines_text_of lines ++ (lines_text_of (line ∷ ls) ++ rest) =
-        sym is.parts ∙ begins ∙ ap (λ x. log_header ++ lines_text_of x ++ rest) same
-        ∙ ap (λ t. t ++ rest) (sym (log_text lines (line ∷ ls)))
-        ∙ append_assoc (log_header ++ lines_text_of lines) (lines_text_of (line ∷ ls)) rest in
+        let whole : head ++ lines_text_of lines ++ torn
+        ≡ head ++ lines_text_of lines ++ (lines_text_of (line ∷ ls) ++ rest) =
+        sym is.parts ∙ begins ∙ ap (λ x. head ++ lines_text_of x ++ rest) same
+        ∙ ap (λ t. t ++ rest) (sym (log_text head lines (line ∷ ls)))
+        ∙ append_assoc (head ++ lines_text_of lines) (lines_text_of (line ∷ ls)) rest in
         let torn_is : torn ≡ line_text_of line ++ (behind ++ rest) =
-        append_cancel_left (log_header ++ lines_text_of lines) torn
+        append_cancel_left (head ++ lines_text_of lines) torn
         (lines_text_of (line ∷ ls) ++ rest) whole
         ∙ append_assoc (line_text_of line) behind rest in
         absurd (is.free (subst (λ (t : Text). Contains t 10) (sym torn_is)
@@ -183,31 +186,54 @@ cut_behind bytes torn lines back first others is e (rest, begins) =
     by (inr (m, same)) = by_more m same
 
 -- what is left of a log with at least these first lines is a log of them, and maybe of more
-pub record HasFirst (bytes : Text) (all first : List (Line Text)) : Type 0 where
+pub record HasFirst (past : Past) (bytes : Text) (all first : List (Line Text)) : Type 0 where
   pub lines : List (Line Text)
   pub torn : Text
-  pub is_log : IsLogOf bytes lines torn
+  pub is_log : IsLogOf past bytes lines torn
   pub more : List (Line Text)
   pub begins : lines ≡ first ++ more
   pub back : List (Line Text)
   pub nothing_else : all ≡ lines ++ back
 
-pub cut_has : (whole bytes : Text) (all first others : List (Line Text)) → AreLogged all
-    → whole ≡ log_header ++ lines_text_of all → length all < 2 ^ 32 → IsPrefix bytes whole
-    → all ≡ first ++ others
-    → IsPrefix (log_header ++ lines_text_of first) bytes → HasFirst bytes all first
-cut_has whole bytes all first others is e few (rest, cut) parts begins =
-    elim (cut_log whole bytes rest all (whole_log whole all is e) few cut) [
-      | inl torn ↦ absurd (no_torn_header bytes first begins torn)
-      | inr (lines, back, torn, split, found) ↦ let more = cut_behind bytes torn lines back first
-          others found (sym split ∙ parts) begins in
-          record {
-            lines = lines;
-            torn = torn;
-            is_log = found;
-            more = more.0;
-            begins = more.1;
-            back = back;
-            nothing_else = split;
-          }
-    ]
+module _ (past : Past) (whole bytes : Text) (all first others : List (Line Text))
+    (is : IsLogOf past whole all []) (few : length (past_lines past ++ all) < 2 ^ 32)
+    (parts : all ≡ first ++ others) (rest left : Text) (cut : whole ≡ bytes ++ rest)
+    (begins : bytes ≡ head_of past ++ lines_text_of first ++ left)
+  where
+    abbrev more : Text
+    more = lines_text_of first ++ left
+
+    left_is : bytes ≡ head_of past ++ more
+    left_is = begins ∙ append_assoc (head_of past) (lines_text_of first) left
+
+    split_after : lines_text_of all ≡ more ++ rest
+    split_after =
+        append_cancel_left (head_of past) (lines_text_of all) (more ++ rest)
+        (sym (append-nil (head_of past ++ lines_text_of all)) ∙ sym is.parts ∙ cut
+        ∙ ap (λ (t : Text). t ++ rest) left_is ∙ append_assoc (head_of past) more rest)
+
+    found_first : IsCutLog past bytes all → HasFirst past bytes all first
+    found_first (lines, back, torn, split, found) =
+        let others_are = begins_with past bytes torn lines back first others found
+        (sym split ∙ parts) (left, begins) in
+        record {
+          lines = lines;
+          torn = torn;
+          is_log = found;
+          more = others_are.0;
+          begins = others_are.1;
+          back = back;
+          nothing_else = split;
+        }
+
+    cut_has_first : HasFirst past bytes all first
+    cut_has_first =
+        found_first
+        (cut_behind past bytes more rest all is.is_past is.logged few left_is split_after)
+
+pub cut_has : (past : Past) (whole bytes : Text) (all first others : List (Line Text))
+    → IsLogOf past whole all [] → length (past_lines past ++ all) < 2 ^ 32 → IsPrefix bytes whole
+    → all ≡ first ++ others → IsPrefix (head_of past ++ lines_text_of first) bytes
+    → HasFirst past bytes all first
+cut_has past whole bytes all first others is few (rest, cut) parts (left, begins) =
+    cut_has_first past whole bytes all first others is few parts rest left cut begins

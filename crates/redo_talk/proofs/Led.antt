@@ -70,6 +70,14 @@ closing_known names s st (t ∷ ts) known =
     known_with names s t (closing_lines_of s st ts) (is_building (target_state st.records t))
     known.0 (closing_known names s st ts known.1)
 
+-- what is worn after some calls is so after more
+word_later : (calls later : ℕ) (names : List Text) (text word : Text) → calls ≤ later
+    → IsFaultWord calls names text word → IsFaultWord later names text word
+word_later calls later names text word le (inl fault) = inl fault
+word_later calls later names text word le (inr (inl memory)) = inr (inl memory)
+word_later calls later names text word le (inr (inr (no_end, no_names, none, is, worn))) =
+    inr (inr (no_end, no_names, none, is, omega (arith, worn, le)))
+
 module _ (before : List (Line Text)) (old new : Known) (round : Round) (led : LeadsTo before old)
   where
     -- the state after a step, if its lines are known
@@ -113,10 +121,10 @@ module _ (before : List (Line Text)) (old new : Known) (round : Round) (led : Le
           state_is = step.state_is
               ∙ ap (λ st. after texts st line.session line.command) led.state_is
               ∙ sym (left_by-append texts empty before (line ∷ []));
-          calls_are = omega (
+          few_calls = omega (
             arith,
             step.calls_are,
-            led.calls_are,
+            led.few_calls,
             length-append before (line ∷ []),
           );
         })
@@ -142,7 +150,7 @@ module _ (before : List (Line Text)) (old new : Known) (round : Round) (led : Le
               word,
               asks,
               subst (λ ns. IsFaultWord (length before) ns text word) led.names_are
-                  (subst (λ n. IsFaultWord n old.names text word) led.calls_are is),
+                  (word_later old.calls (length before) old.names text word led.few_calls is),
               said,
             )
 
@@ -215,8 +223,8 @@ module _ (before : List (Line Text)) (old new : Known) (round : Round) (led : Le
       names_are = step.names_are ∙ sym (ending_names step);
       state_is = step.state_is ∙ ap (λ st. left_by texts st round.lines) led.state_is
           ∙ sym (left_by-append texts empty before round.lines);
-      calls_are =
-          omega (arith, step.calls_are, led.calls_are, length-append before round.lines);
+      few_calls =
+          omega (arith, step.calls_are, led.few_calls, length-append before round.lines);
     }
 
     step_is_round : IsStep old new round → IsRound before round

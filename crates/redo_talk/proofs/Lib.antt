@@ -8,14 +8,17 @@ pub mod RoundTold
 pub mod LoggedPrefixes
 pub mod Asking
 pub mod Steps
+pub mod Following
 pub mod Outcomes
 pub mod Moments
 pub mod UnderWay
+pub mod Replaced
 pub mod Unanswered
 pub mod Talked
 pub mod Served
 pub mod LawfulBytes
 pub mod LawfulLines
+pub mod LawfulHistories
 pub mod LawfulLogs
 pub mod LawfulTalks
 pub mod LawfulTexts
@@ -25,5 +28,7 @@ pub mod LawfulTurns
 pub mod OpeningKept
 pub mod OpeningDone
 pub mod OpeningEnds
+pub mod WholeOperations
 pub mod OpeningMoments
+pub mod OpeningFirst
 pub mod EndedAll

@@ -2,15 +2,14 @@
 use Rattle.std.proofs.Common.{◌≡◌, ◌⊎◌, Bool, true, false, cond, List, [], ◌∷◌, ◌++◌, refl, sym, ap, ◌∙◌, subst, append-nil, append_assoc, inl, inr}
 use Rattle.std.proofs.lemmas.List.Concat.{flat_map-append}
 use Rattle.redo_model.specs.Names.{Text, texts}
-use Rattle.redo_model.specs.State.{empty}
+use Rattle.redo_model.specs.State.{State, empty}
 use Rattle.redo_model.specs.History.{left_by}
-use Rattle.redo_live.specs.Lines.{lines_text_of}
-use Rattle.redo_log.specs.Logs.{log_header}
+use Rattle.redo_model.proofs.OneMore.{left_by-append}
 use Rattle.redo_log.specs.Operations.{Operation, Append, Sync, Write, LogFailed, OutputFailed, HasNoFailure, IsPrefix, IsAlways, held_after, is_copy, written_by}
 use Rattle.redo_log.specs.Restores.{IsDamagedAfter}
 use Rattle.redo_talk.specs.Logs.{HasNoEnd, logged_of}
 use Rattle.redo_talk.specs.Rounds.{Round, lines_in, said_in}
-use Rattle.redo_talk.specs.Talks.{Former, AreLines, BeginsBy, HasNoCopy, IsSalvaged, history_of, log_of, output_of, greeting_of}
+use Rattle.redo_talk.specs.Talks.{Former, AreLines, BeginsBy, HasNoCopy, IsLogAfter, IsSalvaged, history_of, lines_after, output_of, greeting_of, state_after}
 use Rattle.redo_talk.specs.Inside.Moments.{Start, IsSafe}
 use Rattle.redo_talk.specs.Inside.Sending.{after_logging}
 use Rattle.redo_talk.proofs.RoundByRound.{logged-append}
@@ -45,10 +44,10 @@ module _ (bytes : Text) (former : Former) (operation : Operation) (done : List O
     (no_copy : is_copy operation ≡ false) (begins : BeginsBy bytes former done)
   where
     salvaged_more : (later : List Operation)
-        → (IsDamagedAfter bytes former.lines × IsSalvaged later)
-        ⊎ (¬ (IsDamagedAfter bytes former.lines) × HasNoCopy later)
-        → (IsDamagedAfter bytes former.lines × IsSalvaged (operation ∷ later))
-        ⊎ (¬ (IsDamagedAfter bytes former.lines) × HasNoCopy (operation ∷ later))
+        → (IsDamagedAfter former.past bytes former.lines × IsSalvaged later)
+        ⊎ (¬ (IsDamagedAfter former.past bytes former.lines) × HasNoCopy later)
+        → (IsDamagedAfter former.past bytes former.lines × IsSalvaged (operation ∷ later))
+        ⊎ (¬ (IsDamagedAfter former.past bytes former.lines) × HasNoCopy (operation ∷ later))
     salvaged_more later (inl (damaged, is)) =
         inl (
           damaged,
@@ -66,7 +65,7 @@ module _ (bytes : Text) (former : Former) (operation : Operation) (done : List O
     pub begins_more : BeginsBy bytes former (operation ∷ done)
     begins_more = record {
       later = operation ∷ begins.later;
-      first = ap (λ ops. operation ∷ ops) begins.first;
+      begins = ap (λ ops. operation ∷ ops) begins.begins;
       salvaged = salvaged_more begins.later begins.salvaged;
     }
 
@@ -105,18 +104,68 @@ module _ (P : List Operation → Type 0) (done : List Operation) (before : IsAlw
   write_always bytes f =
       (λ part of. subst (λ o. P (o ∷ done)) (sym of.2) (f of.0 of.1), before)
 
--- the log after more rounds
-pub log_more : (former : Former) (rounds more : List Round) → log_of former (rounds ++ more)
-    ≡ log_of former rounds
-    ++ logged_of (left_by texts (left_by texts empty (history_of former)) (lines_in rounds))
-    (lines_in more)
-log_more former rounds more =
-    let state = left_by texts empty (history_of former) in
-    let opened = log_header ++ lines_text_of (history_of former) in
-    ap (λ ls. opened ++ logged_of state ls) (flat_map-append (λ r. r.lines) rounds more)
-    ∙ ap (λ t. opened ++ t) (logged-append state (lines_in rounds) (lines_in more))
-    ∙ sym (append_assoc opened (logged_of state (lines_in rounds))
-    (logged_of (left_by texts state (lines_in rounds)) (lines_in more)))
+-- what more rounds log
+pub logged_more : (state : State Text) (rounds more : List Round)
+    → logged_of state (lines_in (rounds ++ more))
+    ≡ logged_of state (lines_in rounds)
+    ++ logged_of (left_by texts state (lines_in rounds)) (lines_in more)
+logged_more state rounds more =
+    ap (logged_of state) (flat_map-append (λ r. r.lines) rounds more)
+    ∙ logged-append state (lines_in rounds) (lines_in more)
+
+-- the history after more rounds
+pub lines_after_more : (former : Former) (rounds more : List Round)
+    → lines_after former (rounds ++ more) ≡ lines_after former rounds ++ lines_in more
+lines_after_more former rounds more =
+    ap (λ ls. history_of former ++ ls) (flat_map-append (λ r. r.lines) rounds more)
+    ∙ sym (append_assoc (history_of former) (lines_in rounds) (lines_in more))
+
+-- the state after more rounds
+pub state_more : (former : Former) (rounds more : List Round)
+    → left_by texts (state_after former rounds) (lines_in more) ≡ state_after former (rounds ++ more)
+state_more former rounds more =
+    sym (left_by-append texts empty (lines_after former rounds) (lines_in more))
+    ∙ ap (left_by texts empty) (sym (lines_after_more former rounds more))
+
+module _ (former : Former) (first : Text) (rounds more : List Round) (log : Text)
+    (is : IsLogAfter former first rounds log)
+  where
+    -- the bytes of the log after more rounds
+    pub text_more : log ++ logged_of (state_after former rounds) (lines_in more)
+        ≡ is.base ++ logged_of (state_after former is.before) (lines_in (is.since ++ more))
+    text_more =
+        let begun = state_after former is.before in
+        let behind = logged_of (state_after former rounds) (lines_in more) in
+        let state_is : left_by texts begun (lines_in is.since) ≡ state_after former rounds =
+        state_more former is.before is.since ∙ ap (state_after former) (sym is.parts) in
+        ap (λ t. t ++ behind) is.log_is
+        ∙ append_assoc is.base (logged_of begun (lines_in is.since)) behind
+        ∙ ap (λ st. is.base ++ (logged_of begun (lines_in is.since)
+        ++ logged_of st (lines_in more))) (sym state_is)
+        ∙ ap (λ t. is.base ++ t) (sym (logged_more begun is.since more))
+
+    -- the log after more rounds
+    pub log_more : IsLogAfter former first (rounds ++ more)
+        (log ++ logged_of (state_after former rounds) (lines_in more))
+    log_more = record {
+      before = is.before;
+      since = is.since ++ more;
+      parts = ap (λ rs. rs ++ more) is.parts ∙ append_assoc is.before is.since more;
+      base = is.base;
+      is_base = is.is_base;
+      log_is = text_more;
+    }
+
+-- the log before the first answer
+pub log_at_first : (former : Former) (first : Text) → IsLogAfter former first [] first
+log_at_first former first = record {
+  before = [];
+  since = [];
+  parts = refl;
+  base = first;
+  is_base = inl (refl, refl);
+  log_is = sym (append-nil first);
+}
 
 -- the output after more rounds
 pub output_more : (version : Text) (former : Former) (rounds more : List Round)
@@ -137,12 +186,17 @@ safe_more start rounds more now (inr is) =
       others = is.others ++ more;
       parts = ap (λ rs. rs ++ more) is.parts ∙ append_assoc is.answered is.others more;
       written = is.written;
+      log = is.log;
+      is_log = is.is_log;
       logged = is.logged;
-      nothing_else = subst (IsPrefix (held_after now).all)
-          (sym (log_more start.former rounds more))
-          (prefix_longer (held_after now).all (log_of start.former rounds)
-          (logged_of (left_by texts (left_by texts empty (history_of start.former))
-          (lines_in rounds)) (lines_in more)) is.nothing_else);
+      nothing_else =
+          let state = state_after start.former is.answered in
+          let some = logged_of state (lines_in is.others) in
+          let behind = logged_of (left_by texts state (lines_in is.others)) (lines_in more) in
+          subst (IsPrefix (held_after now).all)
+          (append_assoc is.log some behind
+          ∙ ap (λ t. is.log ++ t) (sym (logged_more state is.others more)))
+          (prefix_longer (held_after now).all (is.log ++ some) behind is.nothing_else);
     })
 
 pub always_more : (start : Start) (rounds more : List Round) (done : List Operation)
@@ -167,6 +221,8 @@ safe_as start rounds done later held written (inr is) =
       others = is.others;
       parts = is.parts;
       written = rw written is.written;
+      log = is.log;
+      is_log = is.is_log;
       logged = rw held is.logged;
       nothing_else = rw held is.nothing_else;
     })

@@ -1,24 +1,19 @@
 -- What was done when a log was opened and greeted, or when that failed.
-use Rattle.std.proofs.Common.{◌≡◌, ◌⊎◌, Bool, true, false, List, [], ◌∷◌, take, refl, sym, ap, ◌∙◌, subst, inl, inr}
+use Rattle.std.proofs.Common.{◌≡◌, ◌⊎◌, Bool, true, false, cond, List, [], ◌∷◌, take, refl, sym, ap, ◌∙◌, subst, inl, inr}
 use Rattle.redo_model.specs.Names.{Text}
-use Rattle.redo_log.specs.Operations.{Operation, Read, Append, Cut, Sync, Copy, Write, LogFailed, OutputFailed, StopsAtFailure, IsPrefix}
-use Rattle.redo_talk.specs.Causes.{IsUnchanged}
-use Rattle.redo_talk.specs.Inside.Opening.{IsRest, BeginsAt, BeginsInPart, IsCutInPart, after_cut}
-use Rattle.redo_talk.specs.Inside.Sending.{after_logging}
+use Rattle.redo_log.specs.Operations.{Operation, Read, Cut, Sync, Copy, Write, LogFailed, OutputFailed, IsPrefix}
+use Rattle.redo_talk.specs.Inside.Opening.{HasGoneOn, HasGoneOnInPart, IsRest, BeginsAt, BeginsInPart, IsCutInPart, after_cut}
 use Rattle.redo_talk.specs.declared.opening.Opened.{Opened}
-use Rattle.redo_talk.proofs.Moments.{prefix_self}
-use Rattle.redo_talk.proofs.OpeningMoments.{append_failed, greeted, settle_failed, write_failed}
+use Rattle.redo_talk.proofs.Following.{gone_follows, gone_part_follows, one_follows, synced_follows}
+use Rattle.redo_talk.proofs.OpeningFirst.{first_of, gone_in_part, unsettled}
+use Rattle.redo_talk.proofs.OpeningMoments.{greeted, sync_failed, write_failed}
 
--- after an append, and a sync if that is asked
-pub logged_then : (sync : Bool) (bytes : Text) (done appended now : List Operation)
-    → appended ≡ Append bytes ∷ done
-    → ((sync ≡ true) × (now ≡ Sync ∷ appended)) ⊎ ((sync ≡ false) × (now ≡ appended))
-    → now ≡ after_logging sync bytes done
-logged_then sync bytes done appended now e (inl (is, f)) =
-    f ∙ ap (λ (d : List Operation). Sync ∷ d) e
-    ∙ ap (λ b. after_logging b bytes done) (sym is)
-logged_then sync bytes done appended now e (inr (is, f)) =
-    f ∙ e ∙ ap (λ b. after_logging b bytes done) (sym is)
+-- after a sync, if that is asked
+pub synced_then : (sync : Bool) (done now : List Operation)
+    → ((sync ≡ true) × (now ≡ Sync ∷ done)) ⊎ ((sync ≡ false) × (now ≡ done))
+    → now ≡ cond sync (Sync ∷ done) done
+synced_then sync done now (inl (is, e)) = e ∙ ap (λ b. cond b (Sync ∷ done) done) (sym is)
+synced_then sync done now (inr (is, e)) = e ∙ ap (λ b. cond b (Sync ∷ done) done) (sym is)
 
 module _ (sync salvage : Bool) (version bytes : Text) (opened : Opened) (done : List Operation)
   where
@@ -27,17 +22,18 @@ module _ (sync salvage : Bool) (version bytes : Text) (opened : Opened) (done : 
     cut_from_read = after_cut opened.rest opened.bytes (Read bytes ∷ [])
 
     -- all was done
-    pub begins_at : done ≡ Write opened.greeting.items
-        ∷ after_logging sync opened.logged.items cut_from_read
+    pub begins_at : (gone : List Operation) → HasGoneOn opened cut_from_read gone
+        → done ≡ Write opened.greeting.items ∷ cond sync (Sync ∷ gone) gone
         → BeginsAt sync salvage version bytes opened done
-    begins_at e =
-        subst (BeginsAt sync salvage version bytes opened) (sym e)
-        (λ is left. greeted sync salvage version bytes opened is left)
-
-    -- nothing was changed
-    pub begins_not : IsUnchanged done → StopsAtFailure done
-        → BeginsInPart sync salvage version bytes opened done
-    begins_not same stops = λ is left. inl (same, stops)
+    begins_at gone on e =
+        subst (BeginsAt sync salvage version bytes opened) (sym e) (
+          synced_follows sync (Write opened.greeting.items) (Read bytes ∷ []) gone
+              (gone_follows opened (Read bytes ∷ []) gone on),
+          λ past is left.
+              let (first, is_first, at) =
+              first_of sync salvage version past bytes opened is left gone on in
+              (first, is_first, greeted sync salvage version past bytes opened is left first gone at),
+        )
 
     -- what is to be cut off was cut off in part
     pub begins_to_cut : (earlier : List Operation) → earlier ≡ Read bytes ∷ []
@@ -46,34 +42,60 @@ module _ (sync salvage : Bool) (version bytes : Text) (opened : Opened) (done : 
     begins_to_cut earlier e (inl failed) =
         subst (BeginsInPart sync salvage version bytes opened)
         (sym (failed ∙ ap (λ ops. LogFailed ∷ ops) e))
-        (λ is left. inl ((refl, (refl, tt)), (refl, tt)))
+        (inl ((refl, (refl, tt)), (refl, tt)))
     begins_to_cut earlier e (inr (damaged, inl failed)) =
         subst (BeginsInPart sync salvage version bytes opened)
         (sym (failed ∙ ap (λ ops. LogFailed ∷ Copy ∷ ops) e))
-        (λ is left. inl ((refl, (refl, (refl, tt))), (refl, (refl, tt))))
+        (inl ((refl, (refl, (refl, tt))), (refl, (refl, tt))))
     begins_to_cut earlier e (inr (damaged, inr failed)) =
         subst (BeginsInPart sync salvage version bytes opened)
         (sym (failed ∙ ap (λ ops. LogFailed ∷ Cut opened.bytes ∷ Copy ∷ ops) e))
-        (λ is left. inr (settle_failed sync salvage version bytes opened is left
-        (subst (λ r. IsRest r bytes (take opened.bytes bytes) is.former.lines) damaged is.rest)))
+        (inr (
+          (LogFailed ∷ Cut opened.bytes ∷ Copy ∷ [], refl),
+          λ past is left.
+              unsettled sync salvage version past bytes opened is left
+              (subst (λ r. IsRest is.former.past r bytes (take opened.bytes bytes) is.former.lines) damaged
+              is.rest),
+        ))
 
-    -- an append failed, or a sync
-    pub begins_to_append : (part : Text) → IsPrefix part opened.logged.items
-        → done ≡ LogFailed ∷ Append part ∷ cut_from_read
+    -- an append failed, or the dump took the place of the log and the log failed then
+    pub begins_to_go_on : HasGoneOnInPart opened cut_from_read done
         → BeginsInPart sync salvage version bytes opened done
-    begins_to_append part is_part e =
+    begins_to_go_on part =
+        inr (
+          gone_part_follows opened (Read bytes ∷ []) done part,
+          λ past is left. gone_in_part sync salvage version past bytes opened is left done part,
+        )
+
+    -- a sync failed
+    pub begins_to_sync : (gone : List Operation) → HasGoneOn opened cut_from_read gone
+        → done ≡ LogFailed ∷ gone → BeginsInPart sync salvage version bytes opened done
+    begins_to_sync gone on e =
         subst (BeginsInPart sync salvage version bytes opened) (sym e)
-        (λ is left. inr (append_failed sync salvage version bytes opened is left part is_part))
-
-    pub begins_to_sync : done ≡ LogFailed ∷ Append opened.logged.items ∷ cut_from_read
-        → BeginsInPart sync salvage version bytes opened done
-    begins_to_sync e = begins_to_append opened.logged.items (prefix_self opened.logged.items) e
+        (inr (
+          one_follows LogFailed (Read bytes ∷ []) gone
+              (gone_follows opened (Read bytes ∷ []) gone on),
+          λ past is left.
+              let (first, is_first, at) = first_of sync salvage version past bytes opened is left gone on in
+              let (begins, stops, always) = sync_failed sync salvage version past bytes opened is left
+              first gone at in
+              (begins, stops, (first, is_first, always)),
+        ))
 
     -- a write of the greeting failed
-    pub begins_to_write : (part : Text) → IsPrefix part opened.greeting.items
-        → done ≡ OutputFailed ∷ Write part
-        ∷ after_logging sync opened.logged.items cut_from_read
+    pub begins_to_write : (gone : List Operation) → HasGoneOn opened cut_from_read gone
+        → (part : Text) → IsPrefix part opened.greeting.items
+        → done ≡ OutputFailed ∷ Write part ∷ cond sync (Sync ∷ gone) gone
         → BeginsInPart sync salvage version bytes opened done
-    begins_to_write part is_part e =
+    begins_to_write gone on part is_part e =
         subst (BeginsInPart sync salvage version bytes opened) (sym e)
-        (λ is left. inr (write_failed sync salvage version bytes opened is left part is_part))
+        (inr (
+          one_follows OutputFailed (Read bytes ∷ []) (Write part ∷ cond sync (Sync ∷ gone) gone)
+              (synced_follows sync (Write part) (Read bytes ∷ []) gone
+              (gone_follows opened (Read bytes ∷ []) gone on)),
+          λ past is left.
+              let (first, is_first, at) = first_of sync salvage version past bytes opened is left gone on in
+              let (begins, stops, always) = write_failed sync salvage version past bytes opened is left
+              first gone at part is_part in
+              (begins, stops, (first, is_first, always)),
+        ))

@@ -1,68 +1,44 @@
 -- What the log and the output hold at each moment from the log's read to the greeting.
 use Rattle.std.proofs.Common.{◌≡◌, ◌⊎◌, Bool, true, false, cond, List, [], ◌∷◌, ◌++◌, Option, take, drop, refl, sym, ap, ◌∙◌, subst, append-nil, append_assoc, inl, inr}
+use Rattle.std.specs.Prelude.{None}
 use Rattle.std.proofs.KnownBytes.{Consumes-nil}
 use Rattle.std.proofs.lemmas.List.{take-append-drop}
 use Rattle.redo_model.specs.Names.{Text}
 use Rattle.redo_live.specs.Lines.{lines_text_of}
-use Rattle.redo_log.specs.Logs.{log_header}
+use Rattle.redo_live.specs.Inside.LiveState.{calls_in}
+use Rattle.redo_log.specs.Logs.{Past}
 use Rattle.redo_log.specs.Restores.{IsDamagedAfter}
-use Rattle.redo_log.specs.Operations.{Operation, Read, Append, Cut, Sync, Revert, Copy, Write, LogFailed, OutputFailed, HasNoFailure, StopsAtFailure, held_after, written_by, IsPrefix, IsPartOf, IsAlways}
-use Rattle.redo_talk.specs.Talks.{BeginsBy, greeting_of, log_of}
+use Rattle.redo_log.specs.Operations.{Operation, Read, Append, Cut, Sync, Copy, Replace, Write, LogFailed, OutputFailed, HasNoFailure, StopsAtFailure, held_after, written_by, IsPrefix, IsAlways}
+use Rattle.redo_talk.specs.Rounds.{lines_in}
+use Rattle.redo_talk.specs.Talks.{BeginsBy, IsLogAfter, found_log, greeting_of}
 use Rattle.redo_talk.specs.Inside.Moments.{Start, IsSafe, IsUnderWay}
 use Rattle.redo_talk.specs.Inside.Opening.{IsRest, IsOpenedFrom, after_cut, start_of}
 use Rattle.redo_talk.specs.Inside.Places.{known_of}
-use Rattle.redo_talk.specs.Inside.Sending.{after_logging}
 use Rattle.redo_talk.specs.Inside.Talking.{nothing}
 use Rattle.redo_talk.specs.declared.opening.Opened.{Opened}
 use Rattle.redo_talk.specs.declared.opening.Rest.{Rest}
 use Rattle.redo_talk.specs.declared.opening.Rest.TheVariants.{Nothing, Torn, Damaged}
-use Rattle.redo_talk.proofs.Moments.{begins_after_logging, begins_more, prefix_self, prefix_trans, append_always, write_always}
+use Rattle.redo_talk.proofs.WholeOperations.{always_whole}
+use Rattle.redo_talk.proofs.Moments.{begins_more, log_at_first, prefix_self, prefix_trans, append_always, write_always}
 
--- an operation that is done whole or not at all
-abbrev is_whole : Operation → Bool
-is_whole (Append bytes) = false
-is_whole (Write bytes) = false
-is_whole operation = true
-
-part_is_whole : (operation part : Operation) → is_whole operation ≡ true → IsPartOf part operation
-    → part ≡ operation
-part_is_whole (Append bytes) part part_too is = absurd (cc)
-part_is_whole (Write bytes) part part_too is = absurd (cc)
-part_is_whole (Read bytes) part whole is = is
-part_is_whole (Cut size) part whole is = is
-part_is_whole Sync part whole is = is
-part_is_whole Revert part whole is = is
-part_is_whole Copy part whole is = is
-part_is_whole LogFailed part whole is = is
-part_is_whole OutputFailed part whole is = is
-
-module _ (P : List Operation → Type 0) (done : List Operation) (always : IsAlways P done) where
-  always_whole : (operation : Operation) → is_whole operation ≡ true → P (operation ∷ done)
-      → IsAlways P (operation ∷ done)
-  always_whole operation whole now = (
-    λ part is. subst (λ (o : Operation). P (o ∷ done))
-        (sym (part_is_whole operation part whole is)) now,
-    always,
-  )
-
-module _ (sync salvage : Bool) (version bytes : Text) (opened : Opened)
-    (is : IsOpenedFrom salvage version bytes opened) (left : Option Text)
+module _ (sync salvage : Bool) (version : Text) (past : Past) (bytes : Text) (opened : Opened)
+    (is : IsOpenedFrom salvage version past bytes opened) (left : Option Text) (first : Text)
   where
+    -- `first` is the log before the first answer
     abbrev start : Start
-    start = start_of sync version bytes is.former left
+    start = start_of sync version bytes is.former first (calls_in opened.live) left
 
     abbrev kept : Text
     kept = take opened.bytes bytes
 
-    -- the log before the first answer
+    -- what was found, and the ends
     abbrev whole : Text
-    whole = log_of is.former []
+    whole = found_log is.former ++ lines_text_of (lines_in is.former.ends)
 
     -- no line of the log is lost
     abbrev HasLines : Text → Type 0
     HasLines held =
-        (is.former.lines ≡ [])
-        ⊎ IsPrefix (log_header ++ lines_text_of is.former.lines) held
+        ((is.former.past ≡ None) × (is.former.lines ≡ [])) ⊎ IsPrefix (found_log is.former) held
 
     has_more_lines : (more : Text) → HasLines kept → HasLines (kept ++ more)
     has_more_lines more (inl none) = inl none
@@ -70,11 +46,11 @@ module _ (sync salvage : Bool) (version bytes : Text) (opened : Opened)
         inr (
           rest ++ more,
           ap (λ (t : Text). t ++ more) e
-              ∙ append_assoc (log_header ++ lines_text_of is.former.lines) rest more,
+              ∙ append_assoc (found_log is.former) rest more,
         )
 
     -- the greeting was not begun, and the log holds this
-    record HoldsBefore (held : Text) (done : List Operation) : Type 0 where
+    pub record HoldsBefore (held : Text) (done : List Operation) : Type 0 where
       always : IsAlways (IsSafe start []) done
       fine : HasNoFailure done
       written : written_by done ≡ []
@@ -129,11 +105,11 @@ module _ (sync salvage : Bool) (version bytes : Text) (opened : Opened)
         (refl, (refl, tt)) refl refl
 
     -- the log is damaged, and the first that was done after the cut is that
-    salvages : (synced : Operation) → IsDamagedAfter bytes is.former.lines
+    salvages : (synced : Operation) → IsDamagedAfter is.former.past bytes is.former.lines
         → (synced ≡ Sync) ⊎ (synced ≡ LogFailed) → BeginsBy bytes is.former (synced ∷ cut_copied)
     salvages synced damaged sync = record {
       later = synced ∷ Cut opened.bytes ∷ Copy ∷ [];
-      first = refl;
+      begins = refl;
       salvaged = inl (
         damaged,
         record {
@@ -148,7 +124,7 @@ module _ (sync salvage : Bool) (version bytes : Text) (opened : Opened)
     }
 
     -- the sync after the cut failed
-    pub settle_failed : IsDamagedAfter bytes is.former.lines
+    pub settle_failed : IsDamagedAfter is.former.past bytes is.former.lines
         → BeginsBy bytes is.former (LogFailed ∷ cut_copied)
         × StopsAtFailure (LogFailed ∷ cut_copied)
         × IsAlways (IsSafe start []) (LogFailed ∷ cut_copied)
@@ -161,7 +137,7 @@ module _ (sync salvage : Bool) (version bytes : Text) (opened : Opened)
     )
 
     -- what comes after the lines that are kept was cut off
-    cut_off : (rest : Rest) → IsRest rest bytes kept is.former.lines
+    cut_off : (rest : Rest) → IsRest is.former.past rest bytes kept is.former.lines
         → HoldsBefore kept (after_cut rest opened.bytes read)
     cut_off Nothing (same, not) = record {
       always = read_is_safe;
@@ -179,12 +155,12 @@ module _ (sync salvage : Bool) (version bytes : Text) (opened : Opened)
       held_is = is_cut_copied.held_is;
     }
 
-    begins_by : (rest : Rest) → IsRest rest bytes kept is.former.lines
+    begins_by : (rest : Rest) → IsRest is.former.past rest bytes kept is.former.lines
         → BeginsBy bytes is.former (after_cut rest opened.bytes read)
-    begins_by Nothing (same, not) = record { later = []; first = refl; salvaged = inr (not, tt) }
+    begins_by Nothing (same, not) = record { later = []; begins = refl; salvaged = inr (not, tt) }
     begins_by Torn not = record {
       later = Cut opened.bytes ∷ [];
-      first = refl;
+      begins = refl;
       salvaged = inr (not, (refl, tt));
     }
     begins_by Damaged damaged = salvages Sync damaged (inl refl)
@@ -242,49 +218,17 @@ module _ (sync salvage : Bool) (version bytes : Text) (opened : Opened)
               ))),
         )
 
-    logged : HoldsBefore whole (Append opened.logged.items ∷ cut)
-    logged = subst (λ (t : Text). HoldsBefore t (Append opened.logged.items ∷ cut)) is.log
-        (appended_part opened.logged.items (prefix_self opened.logged.items))
-
-    has_lines : HasLines whole
-    has_lines = subst HasLines is.log (has_more_lines opened.logged.items is.lines)
-
-    synced : HoldsBefore whole (Sync ∷ Append opened.logged.items ∷ cut)
-    synced = record {
-      always = always_whole (IsSafe start []) (Append opened.logged.items ∷ cut) logged.always Sync
-          refl
-          (begun (Sync ∷ Append opened.logged.items ∷ cut) whole logged.written logged.held_is
-          has_lines (inr (prefix_self whole)));
-      fine = (refl, logged.fine);
-      written = logged.written;
-      held_is = logged.held_is;
-    }
-
-    abbrev ready : List Operation
-    ready = after_logging sync opened.logged.items cut
-
-    -- what it holds before the greeting is on the disk, if that is asked
-    ready_by : (b : Bool) → HoldsBefore whole (after_logging b opened.logged.items cut)
-        × (cond b (held_after (after_logging b opened.logged.items cut)).synced
-        (held_after (after_logging b opened.logged.items cut)).all ≡ whole)
-    ready_by true = (synced, synced.held_is)
-    ready_by false = (logged, logged.held_is)
-
-    is_ready : HoldsBefore whole ready
-    is_ready = (ready_by sync).0
-
-    begins_written : (part : Text) → BeginsBy bytes is.former (Write part ∷ ready)
-    begins_written part =
-        begins_more bytes is.former (Write part) ready refl
-        (begins_after_logging bytes is.former sync opened.logged.items cut begins_cut)
-
-    on_disk : cond sync (held_after ready).synced (held_after ready).all ≡ whole
-    on_disk = (ready_by sync).1
+    -- the greeting was not begun, the log is the first one, and may be synced now, or fail
+    pub record HoldsFirst (done : List Operation) : Type 0 where
+      before : HoldsBefore first done
+      begins : BeginsBy bytes is.former done
+      synced : IsSafe start [] (Sync ∷ done)
+      failed : IsSafe start [] (LogFailed ∷ done)
 
     -- after a part of the greeting
     greeted_part : (done : List Operation) (part : Text) → IsPrefix part opened.greeting.items
-        → written_by done ≡ part → (held_after done).all ≡ whole
-        → cond sync (held_after done).synced (held_after done).all ≡ whole → IsSafe start [] done
+        → written_by done ≡ part → (held_after done).all ≡ first
+        → cond sync (held_after done).synced (held_after done).all ≡ first → IsSafe start [] done
     greeted_part done part (rest, e) written held disk = inr (record {
       answered = [];
       others = [];
@@ -294,56 +238,155 @@ module _ (sync salvage : Bool) (version bytes : Text) (opened : Opened)
         append-nil (greeting_of version is.former) ∙ sym is.greeting ∙ e
             ∙ ap (λ (t : Text). t ++ rest) (sym written),
       );
-      logged = ([], disk ∙ sym (append-nil whole));
-      nothing_else = ([], sym held ∙ sym (append-nil (held_after done).all));
+      log = first;
+      is_log = log_at_first is.former first;
+      logged = ([], disk ∙ sym (append-nil first));
+      nothing_else = (
+        [],
+        append-nil first ∙ sym held ∙ sym (append-nil (held_after done).all),
+      );
     })
 
-    abbrev writes : Text → List Operation
-    writes part = Write part ∷ ready
+    pub is_appended : first ≡ whole → HoldsFirst (Append opened.logged.items ∷ cut)
+    is_appended e =
+        let done = Append opened.logged.items ∷ cut in
+        let at : HoldsBefore whole done = subst (λ (t : Text). HoldsBefore t done) is.log
+        (appended_part opened.logged.items (prefix_self opened.logged.items)) in
+        let lines : HasLines whole =
+        subst HasLines is.log (has_more_lines opened.logged.items is.lines) in
+        record {
+          before = subst (λ (t : Text). HoldsBefore t done) (sym e) at;
+          begins = begins_appended opened.logged.items;
+          synced = begun (Sync ∷ done) whole at.written at.held_is lines (inr (prefix_self whole));
+          failed =
+              begun (LogFailed ∷ done) whole at.written at.held_is lines (inr (prefix_self whole));
+        }
 
-    written_is : (part : Text) → written_by (writes part) ≡ part
-    written_is part = ap (λ (t : Text). t ++ part) is_ready.written
+    -- before the greeting, where all that the log holds is on the disk
+    nothing_greeted : (done : List Operation) → written_by done ≡ []
+        → (held_after done).all ≡ first → (held_after done).synced ≡ first → IsSafe start [] done
+    nothing_greeted done written all synced =
+        greeted_part done [] (opened.greeting.items, refl) written all (by sync)
+      where
+        by : (b : Bool) → cond b (held_after done).synced (held_after done).all ≡ first
+        by true = synced
+        by false = all
 
-    written_always : (part : Text) → IsPrefix part opened.greeting.items
-        → IsAlways (IsSafe start []) (writes part)
-    written_always part is_part =
-        write_always (IsSafe start []) ready is_ready.always part (λ first within.
-        greeted_part (writes first) first
-        (prefix_trans first part opened.greeting.items within is_part) (written_is first)
-        is_ready.held_is on_disk)
+    pub is_replaced : (dump : Text) → first ≡ dump → HoldsFirst (Replace dump ∷ cut)
+    is_replaced dump e =
+        let done = Replace dump ∷ cut in
+        record {
+          before = record {
+            always = always_whole (IsSafe start []) cut is_cut.always (Replace dump) refl
+                (nothing_greeted done is_cut.written (sym e) (sym e));
+            fine = (refl, is_cut.fine);
+            written = is_cut.written;
+            held_is = sym e;
+          };
+          begins = begins_more bytes is.former (Replace dump) cut refl begins_cut;
+          synced = nothing_greeted (Sync ∷ done) is_cut.written (sym e) (sym e);
+          failed = nothing_greeted (LogFailed ∷ done) is_cut.written (sym e) (sym e);
+        }
 
-    pub write_failed : (part : Text) → IsPrefix part opened.greeting.items
-        → BeginsBy bytes is.former (OutputFailed ∷ writes part)
-        × StopsAtFailure (OutputFailed ∷ writes part)
-        × IsAlways (IsSafe start []) (OutputFailed ∷ writes part)
-    write_failed part is_part = (
-      begins_more bytes is.former OutputFailed (writes part) refl (begins_written part),
-      (refl, is_ready.fine),
-      always_whole (IsSafe start []) (writes part) (written_always part is_part) OutputFailed refl
-          (greeted_part (OutputFailed ∷ writes part) part is_part (written_is part)
-          is_ready.held_is on_disk),
-    )
+    module _ (gone : List Operation) (at : HoldsFirst gone) where
+      -- the log failed when it was to be synced
+      pub sync_failed : BeginsBy bytes is.former (LogFailed ∷ gone)
+          × StopsAtFailure (LogFailed ∷ gone) × IsAlways (IsSafe start []) (LogFailed ∷ gone)
+      sync_failed = (
+        begins_more bytes is.former LogFailed gone refl at.begins,
+        at.before.fine,
+        always_whole (IsSafe start []) gone at.before.always LogFailed refl at.failed,
+      )
 
-    pub greeted : IsUnderWay start
-        (record { known = known_of opened.live; left = left; done = writes opened.greeting.items })
-        nothing []
-    greeted = record {
-      sent = [];
-      kept = [];
-      steps = λ i. record {
-        names = is.left.names_are i;
-        state = is.left.state_is i;
-        calls = is.left.calls_are i;
-      };
-      lines = tt;
-      heard = Consumes-nil left;
-      begins = begins_written opened.greeting.items;
-      fine = (refl, is_ready.fine);
-      always = written_always opened.greeting.items (prefix_self opened.greeting.items);
-      log = is_ready.held_is;
-      disk = on_disk;
-      to_log = sym (append-nil whole);
-      output = written_is opened.greeting.items ∙ is.greeting
-          ∙ sym (append-nil (greeting_of version is.former));
-      to_say = refl;
-    }
+      synced : HoldsBefore first (Sync ∷ gone)
+      synced = record {
+        always = always_whole (IsSafe start []) gone at.before.always Sync refl at.synced;
+        fine = (refl, at.before.fine);
+        written = at.before.written;
+        held_is = at.before.held_is;
+      }
+
+      abbrev ready_if : Bool → List Operation
+      ready_if b = cond b (Sync ∷ gone) gone
+
+      abbrev ready : List Operation
+      ready = ready_if sync
+
+      -- what it holds before the greeting is on the disk, if that is asked
+      ready_by : (b : Bool) → HoldsBefore first (ready_if b) × BeginsBy bytes is.former (ready_if b)
+          × (cond b (held_after (ready_if b)).synced (held_after (ready_if b)).all ≡ first)
+      ready_by true = (
+        synced,
+        begins_more bytes is.former Sync gone refl at.begins,
+        at.before.held_is,
+      )
+      ready_by false = (at.before, at.begins, at.before.held_is)
+
+      is_ready : HoldsBefore first ready
+      is_ready = (ready_by sync).0
+
+      begins_written : (part : Text) → BeginsBy bytes is.former (Write part ∷ ready)
+      begins_written part = begins_more bytes is.former (Write part) ready refl (ready_by sync).1
+
+      on_disk : cond sync (held_after ready).synced (held_after ready).all ≡ first
+      on_disk = (ready_by sync).2
+
+      abbrev writes : Text → List Operation
+      writes part = Write part ∷ ready
+
+      written_is : (part : Text) → written_by (writes part) ≡ part
+      written_is part = ap (λ (t : Text). t ++ part) is_ready.written
+
+      written_always : (part : Text) → IsPrefix part opened.greeting.items
+          → IsAlways (IsSafe start []) (writes part)
+      written_always part is_part =
+          write_always (IsSafe start []) ready is_ready.always part (λ some within.
+          greeted_part (writes some) some
+          (prefix_trans some part opened.greeting.items within is_part) (written_is some)
+          is_ready.held_is on_disk)
+
+      pub write_failed : (part : Text) → IsPrefix part opened.greeting.items
+          → BeginsBy bytes is.former (OutputFailed ∷ writes part)
+          × StopsAtFailure (OutputFailed ∷ writes part)
+          × IsAlways (IsSafe start []) (OutputFailed ∷ writes part)
+      write_failed part is_part = (
+        begins_more bytes is.former OutputFailed (writes part) refl (begins_written part),
+        (refl, is_ready.fine),
+        always_whole (IsSafe start []) (writes part) (written_always part is_part) OutputFailed refl
+            (greeted_part (OutputFailed ∷ writes part) part is_part (written_is part)
+            is_ready.held_is on_disk),
+      )
+
+      pub greeted : IsUnderWay start
+          (record { known = known_of opened.live; left = left; done = writes opened.greeting.items })
+          nothing []
+      greeted = record {
+        is_start = record {
+          led = record {
+            legal = is.left.legal;
+            names_are = refl;
+            state_is = refl;
+            few_calls = is.left.few_calls;
+          };
+          logged = is.logged;
+        };
+        sent = [];
+        kept = [];
+        steps = λ i. record {
+          names = is.left.names_are i;
+          state = is.left.state_is i;
+          calls = calls_in opened.live;
+        };
+        lines = tt;
+        heard = Consumes-nil left;
+        begins = begins_written opened.greeting.items;
+        fine = (refl, is_ready.fine);
+        always = written_always opened.greeting.items (prefix_self opened.greeting.items);
+        log = subst (IsLogAfter is.former first []) (sym is_ready.held_is)
+            (log_at_first is.former first);
+        disk = on_disk ∙ sym is_ready.held_is;
+        to_log = refl;
+        output = written_is opened.greeting.items ∙ is.greeting
+            ∙ sym (append-nil (greeting_of version is.former));
+        to_say = refl;
+      }

@@ -38,3 +38,8 @@ pub if_err_then : {T E : Type 0} (r : Result T E) (P Q : E → Type 0) → IfErr
     → ((e : E) → P e → Q e) → IfErr r Q
 if_err_then (Ok x) P Q p f = tt
 if_err_then (Err e) P Q p f = f e p
+
+pub both_err : {T E : Type 0} (r : Result T E) (P Q R : E → Type 0) → IfErr r P → IfErr r Q
+    → ((e : E) → P e → Q e → R e) → IfErr r R
+both_err (Ok x) P Q R p q f = tt
+both_err (Err e) P Q R p q f = f e p q

@@ -1,18 +1,20 @@
 -- What a conversation comes to when all that was read was answered, or an operation failed.
-use Rattle.std.proofs.Common.{◌≡◌, Bool, List, [], ◌++◌, Option, sym, subst, append-nil}
+use Rattle.std.proofs.Common.{◌≡◌, List, [], ◌++◌, Option, sym, subst, append-nil}
 use Rattle.std.specs.Io.KnownBytes.{Consumes, Keeps}
 use Rattle.std.proofs.KnownBytes.{Consumes-kept}
 use Rattle.redo_model.specs.Names.{Text}
+use Rattle.redo_live.specs.Inside.LiveState.{LiveState}
 use Rattle.redo_log.specs.Operations.{Operation}
 use Rattle.redo_talk.specs.Logs.{HasNoEnd}
 use Rattle.redo_talk.specs.Rounds.{heard_in}
 use Rattle.redo_talk.specs.Inside.Moments.{Start, IsBrokenOff}
-use Rattle.redo_talk.specs.Inside.Places.{TalksAt}
+use Rattle.redo_talk.specs.Inside.Places.{TalksAt, as_place, idle_place, known_of}
 use Rattle.redo_talk.specs.Inside.Steps.{Known}
 use Rattle.redo_talk.specs.Inside.Sending.{IsSendCause}
 use Rattle.redo_talk.specs.Inside.Talking.{HasAnsweredAll, IsTalkCause}
+use Rattle.redo_talk.specs.declared.sending.Unsent.{Unsent}
 use Rattle.redo_talk.specs.declared.fault.ServeFault.{ServeFault}
-use Rattle.redo_talk.specs.declared.fault.ServeFault.TheVariants.{Memory, Worn, Differs, Log, Read, TooLong, Write}
+use Rattle.redo_talk.specs.declared.fault.ServeFault.TheVariants.{Memory, Worn, State, Differs, Log, Read, TooLong, Write}
 use Rattle.redo_talk.proofs.Responding.{place, same_waiting}
 use Rattle.redo_talk.proofs.UnderWay.{heard_more}
 
@@ -23,6 +25,7 @@ module _ (start : Start) (known : Known) (left left' : Option Text) (done : List
     -- a read that failed took nothing
     pub kept_left : Keeps left left' → TalksAt start left' (place known done logged said) begun
     kept_left same = record {
+      is_start = talk.is_start;
       sent = talk.sent;
       kept = talk.kept;
       steps = talk.steps;
@@ -52,6 +55,23 @@ module _ (start : Start) (known : Known) (left left' : Option Text) (done : List
         subst (λ t. TalksAt start left' (place known done logged said) t) (append-nil begun)
         (read_more [] taken)
 
+-- where nothing waits
+module _ (start : Start) (left : Option Text) (live : LiveState) (done : List Operation)
+    (unsent : Unsent) (more : Text) (none_logged : unsent.logged.items ≡ [])
+    (none_said : unsent.said.items ≡ [])
+  where
+    pub none_waiting : TalksAt start left (as_place live done unsent) more
+        → TalksAt start left (idle_place live done) more
+    none_waiting talk =
+        same_waiting start left (known_of live) done unsent.logged.items unsent.said.items [] [] more
+        (sym none_logged) (sym none_said) talk
+
+    pub waiting_again : TalksAt start left (idle_place live done) more
+        → TalksAt start left (as_place live done unsent) more
+    waiting_again talk =
+        same_waiting start left (known_of live) done [] [] unsent.logged.items unsent.said.items more
+        none_logged none_said talk
+
 -- nothing waits, and the line that began has no end
 pub answered_all : (start : Start) (known : Known) (left : Option Text) (done : List Operation)
     (logged said begun : Text) → logged ≡ [] → said ≡ [] → HasNoEnd begun
@@ -69,6 +89,7 @@ send_cause_talks start known left done (Log fault) cause broken = (cause, broken
 send_cause_talks start known left done Write cause broken = (cause, broken)
 send_cause_talks start known left done Memory cause broken = absurd cause
 send_cause_talks start known left done Worn cause broken = absurd cause
+send_cause_talks start known left done (State line) cause broken = absurd cause
 send_cause_talks start known left done (Differs line) cause broken = absurd cause
 send_cause_talks start known left done Read cause broken = absurd cause
 send_cause_talks start known left done TooLong cause broken = absurd cause

@@ -4,17 +4,19 @@ use Rattle.std.specs.Io.KnownBytes.{Consumes}
 use Rattle.std.proofs.KnownBytes.{Consumes-trans}
 use Rattle.std.proofs.lemmas.List.Concat.{flat_map-append}
 use Rattle.redo_model.specs.Names.{Text, texts}
+use Rattle.redo_model.specs.State.{empty}
 use Rattle.redo_model.specs.History.{left_by}
+use Rattle.redo_model.proofs.OneMore.{left_by-append}
 use Rattle.redo_history.specs.Histories.{ended}
-use Rattle.redo_log.specs.Operations.{Operation, Append, Sync, Revert, Write, LogFailed, OutputFailed, HasNoFailure, StopsAtFailure, IsPrefix, IsAlways, held_after, written_by}
+use Rattle.redo_log.specs.Operations.{Operation, Held, Append, Sync, Revert, Write, LogFailed, OutputFailed, HasNoFailure, StopsAtFailure, IsPrefix, IsAlways, held_after, written_by}
 use Rattle.redo_talk.specs.Logs.{HasNoEnd, logged_of}
 use Rattle.redo_talk.specs.Rounds.{Round, lines_in, heard_in, said_in}
-use Rattle.redo_talk.specs.Talks.{AreLines, BeginsBy, log_of, output_of}
+use Rattle.redo_talk.specs.Talks.{AreLines, BeginsBy, IsLogAfter, history_of, output_of, state_after}
 use Rattle.redo_talk.specs.Inside.Moments.{Start, Moment, Waiting, IsSafe, IsUnderWay, IsBrokenOff, known_first}
 use Rattle.redo_talk.specs.Inside.Sending.{IsAppendedInPart, IsUnsynced, IsWrittenInPart, IsSentInPart, after_logging, sent_after}
 use Rattle.redo_talk.specs.Inside.Steps.{Known, IsStep, AreSteps}
 use Rattle.redo_talk.specs.Inside.Talking.{nothing}
-use Rattle.redo_talk.proofs.Moments.{begins_after_logging, begins_more, fine_after_logging, lines_more, prefix_self, prefix_of_same, prefix_trans, prefix_of_either, prefix_behind, append_always, write_always, log_more, output_more, always_more, log_failed_safe, output_failed_safe, all_after_logging, kept_after_logging, written_after_logging, always_after_logging}
+use Rattle.redo_talk.proofs.Moments.{begins_after_logging, begins_more, fine_after_logging, lines_more, prefix_self, prefix_of_same, prefix_trans, prefix_of_either, prefix_behind, append_always, write_always, log_more, logged_more, state_more, output_more, always_more, log_failed_safe, output_failed_safe, all_after_logging, kept_after_logging, written_after_logging, always_after_logging}
 use Rattle.redo_talk.proofs.RoundByRound.{steps_more, steps_state, in_more}
 
 -- what is kept of the log while more is appended
@@ -29,8 +31,12 @@ module _ (start : Start) (now : Moment) (waiting : Waiting) (more : Text)
     abbrev rounds : List Round
     rounds = way.sent ++ way.kept
 
-    abbrev sent_log : Text
-    sent_log = log_of start.former way.sent
+    abbrev held : Held
+    held = held_after now.done
+
+    -- the log when all that waits is in it
+    abbrev whole_log : Text
+    whole_log = held.all ++ waiting.logged
 
     abbrev logged : List Operation
     logged = after_logging start.sync waiting.logged now.done
@@ -42,6 +48,14 @@ module _ (start : Start) (now : Moment) (waiting : Waiting) (more : Text)
     fine_logged : HasNoFailure logged
     fine_logged = fine_after_logging waiting.logged now.done way.fine start.sync
 
+    -- what is known is what these rounds left
+    state_known : left_by texts (state_after start.former way.sent) (lines_in way.kept)
+        ≡ now.known.state
+    state_known =
+        state_more start.former way.sent way.kept
+        ∙ left_by-append texts empty (history_of start.former) (lines_in rounds)
+        ∙ sym (steps_state (known_first start) now.known rounds way.steps)
+
     -- a line was read and answered
     pub answered_more : (round : Round) (known : Known) (rest : Text)
         → more ≡ ended round.heard ++ rest → HasNoEnd round.heard → IsStep now.known known round
@@ -50,11 +64,11 @@ module _ (start : Start) (now : Moment) (waiting : Waiting) (more : Text)
           logged = waiting.logged ++ logged_of now.known.state round.lines;
         }) rest
     answered_more round known rest e free step =
-        let history = (known_first start).state in
         let kept = way.kept ++ round ∷ [] in
-        let lines = lines_in rounds in
+        let state = state_after start.former way.sent in
         let assoc = append_assoc way.sent way.kept (round ∷ []) in
         record {
+          is_start = way.is_start;
           sent = way.sent;
           kept = kept;
           steps = subst (AreSteps (known_first start) known) assoc
@@ -71,15 +85,11 @@ module _ (start : Start) (now : Moment) (waiting : Waiting) (more : Text)
               (always_more start rounds (round ∷ []) now.done way.always);
           log = way.log;
           disk = way.disk;
-          to_log = ap (log_of start.former) (sym assoc)
-              ∙ log_more start.former rounds (round ∷ [])
-              ∙ ap (λ ls. log_of start.former rounds ++ logged_of (left_by texts history lines) ls)
-              (append-nil round.lines)
-              ∙ ap (λ t. t ++ logged_of (left_by texts history lines) round.lines) way.to_log
-              ∙ append_assoc sent_log waiting.logged
-              (logged_of (left_by texts history lines) round.lines)
-              ∙ ap (λ st. sent_log ++ (waiting.logged ++ logged_of st round.lines))
-              (sym (steps_state (known_first start) now.known rounds way.steps));
+          to_log = logged_more state way.kept (round ∷ [])
+              ∙ ap (λ ls. logged_of state (lines_in way.kept)
+              ++ logged_of (left_by texts state (lines_in way.kept)) ls) (append-nil round.lines)
+              ∙ ap (λ st. logged_of state (lines_in way.kept) ++ logged_of st round.lines) state_known
+              ∙ ap (λ t. t ++ logged_of now.known.state round.lines) way.to_log;
           output = way.output;
           to_say = flat_map-append (λ r. r.said) way.kept (round ∷ [])
               ∙ ap (λ t. said_in way.kept ++ t) (append-nil round.said)
@@ -90,6 +100,7 @@ module _ (start : Start) (now : Moment) (waiting : Waiting) (more : Text)
     pub heard_more : (left : Option Text) (bytes : Text) → Consumes now.left left bytes
         → IsUnderWay start (record now { left = left }) waiting (more ++ bytes)
     heard_more left bytes taken = record {
+      is_start = way.is_start;
       sent = way.sent;
       kept = way.kept;
       steps = way.steps;
@@ -106,9 +117,16 @@ module _ (start : Start) (now : Moment) (waiting : Waiting) (more : Text)
       to_say = way.to_say;
     }
 
-    -- the log when all that waits is in it
-    log_whole : (held_after now.done).all ++ waiting.logged ≡ log_of start.former rounds
-    log_whole = ap (λ t. t ++ waiting.logged) way.log ∙ sym way.to_log
+    -- that is the log after all rounds
+    pub log_grown : IsLogAfter start.former start.first rounds whole_log
+    log_grown =
+        subst (λ t. IsLogAfter start.former start.first rounds (held.all ++ t)) way.to_log
+        (log_more start.former start.first way.sent way.kept held.all way.log)
+
+    within_whole : (some : Text) → IsPrefix some whole_log
+        → IsPrefix some
+        (held.all ++ logged_of (state_after start.former way.sent) (lines_in way.kept))
+    within_whole some = subst (λ t. IsPrefix some (held.all ++ t)) (sym way.to_log)
 
     written_sent : IsPrefix (written_by now.done) (output_of start.version start.former way.sent)
     written_sent =
@@ -118,15 +136,15 @@ module _ (start : Start) (now : Moment) (waiting : Waiting) (more : Text)
     append_safe : (some : Text) → IsPrefix some waiting.logged
         → IsSafe start rounds (Append some ∷ now.done)
     append_safe some part =
-        let held = held_after now.done in
         inr (record {
           answered = way.sent;
           others = way.kept;
           parts = refl;
           written = written_sent;
-          logged = kept_while_appending start.sync sent_log held.synced held.all some way.disk
-              way.log;
-          nothing_else = subst (IsPrefix (held.all ++ some)) log_whole
+          log = held.all;
+          is_log = way.log;
+          logged = kept_while_appending start.sync held.all held.synced held.all some way.disk refl;
+          nothing_else = within_whole (held.all ++ some)
               (prefix_behind held.all some waiting.logged part);
         })
 
@@ -136,16 +154,16 @@ module _ (start : Start) (now : Moment) (waiting : Waiting) (more : Text)
 
     sync_safe : IsSafe start rounds (Sync ∷ Append waiting.logged ∷ now.done)
     sync_safe =
-        let all = (held_after now.done).all ++ waiting.logged in
-        let begins : IsPrefix sent_log all =
-        (waiting.logged, ap (λ t. t ++ waiting.logged) way.log) in
+        let begins : IsPrefix held.all whole_log = (waiting.logged, refl) in
         inr (record {
           answered = way.sent;
           others = way.kept;
           parts = refl;
           written = written_sent;
-          logged = prefix_of_either start.sync sent_log all all begins begins;
-          nothing_else = prefix_of_same all (log_of start.former rounds) log_whole;
+          log = held.all;
+          is_log = way.log;
+          logged = prefix_of_either start.sync held.all whole_log whole_log begins begins;
+          nothing_else = within_whole whole_log (prefix_self whole_log);
         })
 
     logs_safely : IsAlways (IsSafe start rounds) logged
@@ -168,7 +186,7 @@ module _ (start : Start) (now : Moment) (waiting : Waiting) (more : Text)
     write_safe : (some : Text) → IsPrefix some waiting.said
         → IsSafe start rounds (Write some ∷ logged)
     write_safe some (rest, e) =
-        let held = held_after logged in
+        let then_held = held_after logged in
         inr (record {
           answered = rounds;
           others = [];
@@ -180,11 +198,12 @@ module _ (start : Start) (now : Moment) (waiting : Waiting) (more : Text)
                 ∙ sym (append_assoc (output_of start.version start.former way.sent) some rest)
                 ∙ ap (λ t. t ++ rest) (sym (written_then some)),
           );
-          logged = prefix_of_same (log_of start.former rounds) (cond start.sync held.synced held.all)
-              (sym log_whole
-              ∙ sym (kept_after_logging waiting.logged now.done start.sync));
-          nothing_else = prefix_of_same held.all (log_of start.former rounds)
-              (all_after_logging waiting.logged now.done start.sync ∙ log_whole);
+          log = whole_log;
+          is_log = log_grown;
+          logged = prefix_of_same whole_log (cond start.sync then_held.synced then_held.all)
+              (sym (kept_after_logging waiting.logged now.done start.sync));
+          nothing_else = prefix_of_same then_held.all (whole_log ++ [])
+              (all_after_logging waiting.logged now.done start.sync ∙ sym (append-nil whole_log));
         })
 
     pub writes_safely : IsAlways (IsSafe start rounds) (Write waiting.said ∷ logged)
@@ -197,7 +216,9 @@ module _ (start : Start) (now : Moment) (waiting : Waiting) (more : Text)
     }) nothing more
     all_sent =
         let none = append-nil rounds in
+        let all_is = all_after_logging waiting.logged now.done start.sync in
         record {
+          is_start = way.is_start;
           sent = rounds;
           kept = [];
           steps = subst (AreSteps (known_first start) now.known) (sym none) way.steps;
@@ -209,9 +230,9 @@ module _ (start : Start) (now : Moment) (waiting : Waiting) (more : Text)
           fine = (refl, fine_logged);
           always = subst (λ rs. IsAlways (IsSafe start rs) (Write waiting.said ∷ logged))
               (sym none) writes_safely;
-          log = all_after_logging waiting.logged now.done start.sync ∙ log_whole;
-          disk = kept_after_logging waiting.logged now.done start.sync ∙ log_whole;
-          to_log = ap (log_of start.former) none ∙ sym (append-nil (log_of start.former rounds));
+          log = subst (IsLogAfter start.former start.first rounds) (sym all_is) log_grown;
+          disk = kept_after_logging waiting.logged now.done start.sync ∙ sym all_is;
+          to_log = refl;
           output = written_then waiting.said ∙ sym output_whole;
           to_say = refl;
         }
@@ -254,18 +275,20 @@ module _ (start : Start) (now : Moment) (waiting : Waiting) (more : Text)
     unsynced_safe : start.sync ≡ true
         → IsSafe start rounds (Revert ∷ Append waiting.logged ∷ now.done)
     unsynced_safe synced =
-        let held = held_after now.done in
-        let same : held.synced ≡ sent_log =
-        subst (λ b. cond b held.synced held.all ≡ sent_log) synced way.disk in
+        let same : held.synced ≡ held.all =
+        subst (λ b. cond b held.synced held.all ≡ held.all) synced way.disk in
         inr (record {
           answered = way.sent;
           others = way.kept;
           parts = refl;
           written = written_sent;
-          logged = prefix_of_either start.sync sent_log held.synced held.synced
-              (prefix_of_same sent_log held.synced (sym same))
-              (prefix_of_same sent_log held.synced (sym same));
-          nothing_else = (waiting.logged, way.to_log ∙ ap (λ t. t ++ waiting.logged) (sym same));
+          log = held.all;
+          is_log = way.log;
+          logged = prefix_of_either start.sync held.all held.synced held.synced
+              (prefix_of_same held.all held.synced (sym same))
+              (prefix_of_same held.all held.synced (sym same));
+          nothing_else = within_whole held.synced
+              (waiting.logged, ap (λ t. t ++ waiting.logged) (sym same));
         })
 
     sync_broken : (done : List Operation) → start.sync ≡ true

@@ -3,9 +3,10 @@ use Rattle.std.specs.Prelude.{◌≡◌, ◌⊎◌, ℕ, Bool, true, false, List
 use Rattle.std.specs.List.{AllByRecursion}
 use Rattle.redo_model.specs.Names.{Text}
 use Rattle.redo_log.specs.Operations.{Operation, Read, Revert, LogFailed, OutputFailed, StopsAtFailure, changes_nothing}
+use Rattle.redo_log.specs.Logs.{Past, HasPast}
 use Rattle.redo_log.specs.Restores.{DiffersAt, HasTooMany}
 use Rattle.redo_talk.specs.Rounds.{Round}
-use Rattle.redo_talk.specs.Talks.{Former, IsTalk, IsConversation}
+use Rattle.redo_talk.specs.Talks.{Former, HasFound, IsTalk, IsConversation}
 use Rattle.redo_talk.specs.declared.keeping.Keeping.{Keeping}
 use Rattle.redo_talk.specs.declared.fault.ServeFault.{ServeFault}
 use Rattle.redo_talk.specs.declared.fault.ServeFault.TheVariants as faults
@@ -32,30 +33,34 @@ module _ (keeping : Keeping) (version : Text) (input input_after : Option Text)
     abbrev pub HasNotBegun : Type 0
     HasNotBegun = (input_after ≡ input) × IsUnchanged done × StopsAtFailure done
 
-    -- the log was read, it has these bytes, and then nothing was done
-    abbrev pub HasOnlyRead : Text → Type 0
-    HasOnlyRead bytes = (input_after ≡ input) × (done ≡ Read bytes ∷ [])
+    -- the log was read, and then nothing was done: this is so of its bytes and of each past that they have
+    abbrev pub HasOnlyRead : (Past → Text → Type 0) → Type 0
+    HasOnlyRead is_so =
+        (input_after ≡ input) × ((bytes : Text) × (done ≡ Read bytes ∷ [])
+        × ((past : Past) → HasPast past bytes → is_so past bytes))
 
-    -- a conversation was led so far, and of what was read the last lines may not be answered
+    -- whatever past was found, a conversation was led so far, and of what was read the last lines may not be answered
     abbrev pub TalkedSoFar : Type 0
     TalkedSoFar =
-        (former : Former) × (rounds : List Round) × (rest : Text)
+        (past : Past) → HasFound past done
+        → (former : Former) × (rounds : List Round) × (rest : Text) × (former.past ≡ past)
         × IsTalk keeping version former rounds rest input input_after done
 
-    -- each line that was read was answered
+    -- whatever past was found, each line that was read was answered
     abbrev pub AnsweredAll : Type 0
     AnsweredAll =
-        (former : Former) × (rounds : List Round) × (rest : Text)
+        (past : Past) → HasFound past done
+        → (former : Former) × (rounds : List Round) × (rest : Text) × (former.past ≡ past)
         × IsConversation keeping version former rounds rest input input_after done
 
     -- the cause of a fault
     abbrev pub IsServeCause : ServeFault → Type 0
     IsServeCause faults.Memory = HasNotBegun
-    IsServeCause faults.Worn = (bytes : Text) × HasOnlyRead bytes × HasTooMany bytes
+    IsServeCause faults.Worn = HasOnlyRead (λ past bytes. HasTooMany past bytes)
+    IsServeCause (faults.State line) = HasOnlyRead (λ past bytes. ⊥)
     IsServeCause (faults.Differs line) =
-        (keeping.salvage ≡ false)
-        × ((bytes : Text) × HasOnlyRead bytes
-        × ((count : ℕ) × (size : ℕ) × DiffersAt bytes line count size))
+        HasOnlyRead (λ past bytes. (keeping.salvage ≡ false)
+        × ((count : ℕ) × (size : ℕ) × DiffersAt past bytes line count size))
     IsServeCause (faults.Log fault) =
         IsTrue (log_failed done) × (HasNotBegun ⊎ TalkedSoFar)
     IsServeCause faults.Read = AnsweredAll

@@ -4,7 +4,7 @@ ghost use Rattle.redo_history.specs.Histories.{ended};
 ghost use Rattle.redo_talk.specs.Logs.{HasNoEnd};
 ghost use Rattle.redo_talk.specs.Inside.KeptLines.{IsHeardOf, IsPrefixOf, kept_of};
 ghost use Rattle.redo_talk.specs.Inside.Places.{GoesOn, GoesOnInLine, BreaksOff, as_place};
-ghost use Rattle.redo_talk.specs.Inside.Sending.{IsSendCause};
+ghost use Rattle.redo_talk.specs.Inside.Sending.{IsFollowedBy, IsSendCause};
 ghost use Rattle.redo_talk.specs.Inside.Unanswered.{IsMemoryFor};
 
 use crate::asked::asked;
@@ -71,8 +71,9 @@ fn answer_line<D: Devices>(
         (as_place live.new (D.history devices.new) unsent.new)
         (ended whole ++ more)) }
     ensures cause { IfErr result (IsSendCause (D.history devices.new)) }
+    ensures more { IsFollowedBy (D.history devices.old) (D.history devices.new) }
 {
-    let Unsent { said, logged } = unsent;
+    let Unsent { said, logged, .. } = unsent;
     match reply(alloc, live, line, usize::MAX, said, logged) {
         Ok(_) => Ok(()),
         // No answer is longer than that, so memory ran out.
@@ -104,6 +105,7 @@ fn answer_piece<D: Devices>(
         (as_place live.new (D.history devices.new) unsent.new)
         (ended (begun ++ piece.now) ++ more)) }
     ensures cause { IfErr result (IsSendCause (D.history devices.new)) }
+    ensures more { IsFollowedBy (D.history devices.old) (D.history devices.new) }
     ensures room { MOST_KEPT ≤ vec_capacity prefix.new }
     ensures none { OnOk result (prefix.new.items ≡ []) }
 {
@@ -132,6 +134,7 @@ fn send_much<D: Devices>(
         (as_place live.now (D.history devices.new) unsent.new)
         more) }
     ensures cause { IfErr result (IsSendCause (D.history devices.new)) }
+    ensures more { IsFollowedBy (D.history devices.old) (D.history devices.new) }
 {
     if unsent.is_much() {
         send(sync, unsent, devices)?;
@@ -162,6 +165,7 @@ pub(crate) fn answer_lines<D: Devices>(
         (as_place live.new (D.history devices.new) unsent.new)
         (begun ++ bytes.now)) }
     ensures cause { IfErr result (IsSendCause (D.history devices.new)) }
+    ensures more { IsFollowedBy (D.history devices.old) (D.history devices.new) }
     ensures room { MOST_KEPT ≤ vec_capacity prefix.new }
     ensures few { OnOk result (length prefix.new.items ≤ MOST_KEPT) }
     ensures none_said { OnOk result (unsent.new.said.items ≡ []) }

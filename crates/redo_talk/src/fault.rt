@@ -14,6 +14,9 @@ pub enum ServeFault {
     /// The log has more lines than the database answers.
     #[error("worn")]
     Worn,
+    /// This line of the log isn't that of a dump. The header is line 1.
+    #[error("line {line}: no state")]
+    State { line: usize },
     /// This line of the log isn't the database's answer, or it isn't the header, which is line 1.
     #[error("line {line} differs")]
     Differs { line: usize },
@@ -77,6 +80,7 @@ impl From<RestoreFault> for ServeFault {
         match fault {
             RestoreFault::Memory => ServeFault::Memory,
             RestoreFault::Worn => ServeFault::Worn,
+            RestoreFault::State { line } => ServeFault::State { line },
             RestoreFault::Differs { line, .. } => ServeFault::Differs { line },
         }
     }

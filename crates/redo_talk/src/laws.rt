@@ -8,16 +8,15 @@ ghost use Rattle.redo_model.specs.History.{Line, left_by, part_of};
 ghost use Rattle.redo_history.specs.Histories.{history_text_of};
 ghost use Rattle.redo_history.specs.HistoryTexts.{IsHistory};
 ghost use Rattle.redo_live.specs.Lines.{names_after};
-ghost use Rattle.redo_log.specs.Logs.{IsLogOf};
 ghost use Rattle.redo_log.specs.Operations.{Operation, held_after, written_by, IsAlways};
 ghost use Rattle.redo_talk.specs.Rounds.{Round, AreRounds, heard_in, lines_in};
-ghost use Rattle.redo_talk.specs.Talks.{Former, IsConversation, IsTalk};
-ghost use Rattle.redo_talk.specs.Inside.Laws.{Agree, AreFew, AsksWhy, HasLed, HasSufficed, RestoresFormer, RestoresAnswered, lines_after, logged_after, rounds_of};
+ghost use Rattle.redo_talk.specs.Talks.{Former, IsConversation, IsTalk, lines_after};
+ghost use Rattle.redo_talk.specs.Inside.Laws.{Agree, AreFew, AreLoggedBy, AsksWhy, HasLed, HasSufficed, IsLogUpTo, RestoresFormer, RestoresAnswered, rounds_of};
 ghost use Rattle.redo_talk.specs.Inside.Steps.{Known, Telling};
 ghost use Rattle.redo_talk.specs.declared.keeping.Keeping.{Keeping};
 
-/// The lines of a conversation, from the first line of its log on, are a history: where they are few enough, so is
-/// their text.
+/// The lines of a conversation, from the first that its log ever had on, are a history: where they are few enough, so
+/// is their text.
 pub fn conversation_is_history()
     ensures { (keeping : Keeping) (version : Text) (former : Former) (rounds : List Round)
         (rest : Text) (input input_after : Option Text) (done : List Operation)
@@ -33,34 +32,35 @@ pub fn own_lines_in_order()
         → AreRounds before rounds → part_of s (lines_in rounds) ≡ lines_in (rounds_of s rounds) }
 {}
 
-/// The log of a conversation is a log of lines that leave the state that the conversation left: from it the next one
-/// goes on, if memory and the counters suffice.
+/// The log of a conversation is a log whose past and lines leave the state that the conversation left: from it the next
+/// one goes on, if memory and the counters suffice.
 pub fn log_restores()
     ensures log { (keeping : Keeping) (version : Text) (former : Former) (rounds : List Round)
         (rest : Text) (input input_after : Option Text) (done : List Operation)
         → IsConversation keeping version former rounds rest input input_after done
-        → IsLogOf (held_after done).all (logged_after former rounds) [] }
+        → (lines : List (Line Text)) × AreLoggedBy former rounds lines
+        × IsLogUpTo (held_after done).all lines [] }
     ensures state { (keeping : Keeping) (version : Text) (former : Former) (rounds : List Round)
         (rest : Text) (input input_after : Option Text) (done : List Operation)
         → IsTalk keeping version former rounds rest input input_after done
-        → left_by texts empty (logged_after former rounds)
-        ≡ left_by texts empty (lines_after former rounds) }
+        → (lines : List (Line Text)) → AreLoggedBy former rounds lines
+        → left_by texts empty lines ≡ left_by texts empty (lines_after former rounds) }
 {}
 
-/// At each moment a conversation can be cut off, and its log restored, or salvaged where it was damaged: with the lines
-/// that were restored before, and once answers are written with all that was logged for these.
+/// At each moment a conversation can be cut off, and its log restored, or salvaged where it was damaged: with the past
+/// and the lines that were restored before, and once answers are written with all that was logged for these.
 pub fn log_is_always_one()
     ensures { (keeping : Keeping) (version : Text) (former : Former) (rounds : List Round)
         (rest : Text) (input input_after : Option Text) (done : List Operation)
         → IsTalk keeping version former rounds rest input input_after done
-        → length (logged_after former rounds) < 2 ^ 32
+        → length (lines_after former rounds) < 2 ^ 32
         → IsAlways (λ now. RestoresFormer keeping.salvage former now
         ⊎ RestoresAnswered keeping.sync version former rounds now) done }
 {}
 
 /// What is heard after a history determines what is done and answered, but for the answers that memory or the counters
 /// ran out, and for the shortest chain that tells why a name is out of date. So the bytes that are read determine the
-/// bytes that are written, and the log.
+/// bytes that are written, and with what the log begins with, and after how many rounds, the log.
 pub fn conversation_is_determined()
     ensures agree { (before : List (Line Text)) (a b : List Round)
         → AreRounds before a → AreRounds before b
@@ -71,13 +71,13 @@ pub fn conversation_is_determined()
         → map (λ round. round.heard) a ≡ map (λ round. round.heard) b
         → AllByRecursion HasSufficed a → AllByRecursion HasSufficed b
         → AllByRecursion (λ round. ¬ (AsksWhy round.heard)) a → a ≡ b }
-    ensures bytes { (version : Text) (former : Former) (a b : List Round) (rest last : Text)
-        (one other : List Operation) → HasLed version former a rest one
-        → HasLed version former b last other → heard_in a ++ rest ≡ heard_in b ++ last
+    ensures bytes { (version base second : Text) (m n : ℕ) (former : Former) (a b : List Round)
+        (rest last : Text) (one other : List Operation) → HasLed version base m former a rest one
+        → HasLed version second n former b last other → heard_in a ++ rest ≡ heard_in b ++ last
         → AllByRecursion HasSufficed a → AllByRecursion HasSufficed b
         → AllByRecursion (λ round. ¬ (AsksWhy round.heard)) a
         → (written_by one ≡ written_by other)
-        × ((held_after one).all ≡ (held_after other).all) }
+        × (base ≡ second → m ≡ n → (held_after one).all ≡ (held_after other).all) }
 {}
 
 /// Questions with the same line as their answer are the same session's about the same name, and are answered the same.

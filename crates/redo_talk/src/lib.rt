@@ -4,9 +4,12 @@
 
 mod answering;
 mod asked;
+mod dumping;
 mod fault;
+mod growth;
 mod keeping;
 mod laws;
+mod midst;
 mod opening;
 mod replying;
 mod request;
@@ -15,7 +18,7 @@ mod serving;
 mod talking;
 
 pub use fault::ServeFault;
-pub use keeping::Keeping;
+pub use keeping::{Compacting, Keeping};
 pub use laws::{
     answers_differ, conversation_is_determined, conversation_is_history, log_is_always_one,
     log_restores, own_lines_in_order,

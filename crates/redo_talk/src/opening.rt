@@ -3,13 +3,16 @@ ghost use Rattle.std.specs.Prelude.{◌≡◌, ◌≤◌, Bool, List, [], ◌∷
 ghost use Rattle.redo_model.specs.History.{Line};
 ghost use Rattle.redo_model.specs.Names.{Text};
 ghost use Rattle.redo_history.specs.Histories.{ended};
-ghost use Rattle.redo_log.specs.Logs.{AreLogged};
+ghost use Rattle.redo_log.specs.Logs.{AreLogged, HasPast, Past};
 ghost use Rattle.redo_log.specs.Operations.{Read, held_after};
 ghost use Rattle.redo_talk.specs.Inside.LeftBy.{IsLeftBy};
-ghost use Rattle.redo_talk.specs.Inside.Opening.{EndsAll, IsKeptFrom, IsOpenCause, IsOpenedFrom, BeginsAt, BeginsInPart, IsCutInPart, after_cut};
+ghost use Rattle.redo_talk.specs.Inside.Opening.{EndsAll, IsKeptFrom, IsOpenCause, IsOpenedFrom, BeginsAt, BeginsInPart, HasGoneOn, HasGoneOnInPart, IsCutInPart, after_cut};
 ghost use Rattle.redo_talk.specs.Inside.Sending.{IsSendCause};
 
+use crate::dumping::dumped;
 use crate::fault::ServeFault;
+use crate::growth::Growth;
+use crate::keeping::Keeping;
 use redo_history::put_number;
 use redo_live::Live;
 use redo_log::{Devices, LOG_HEADER, RestoreFault, Restored, restore};
@@ -42,13 +45,19 @@ pub(crate) struct Opened {
     pub rest: Rest,
     /// What comes to the log before a line is read: a header if it has none, and the ends of the sessions that it left.
     pub logged: Vec<u8>,
+    /// What takes the place of the log, if it is time for that: a dump of what is known then.
+    pub dump: Option<Vec<u8>>,
+    /// How far the log has grown, if no dump takes its place.
+    pub growth: Growth,
     /// What comes to the output before a line is read.
     pub greeting: Vec<u8>,
 }
 
 /// Does the lines of a log again, or those before the first that differs, if it may be cut.
 fn restore_or_salvage(alloc: Global, salvage: bool, log: &[u8]) -> Result<Kept, ServeFault>
-    ensures kept { IfOk result (IsKeptFrom salvage log.now) }
+    ensures kept { IfOk result (λ kept. (past : Past) → HasPast past log.now
+        → IsKeptFrom salvage past log.now kept) }
+    ensures within { IfOk result (λ kept. kept.restored.bytes ≤ length log.now) }
     ensures cause { IfErr result (IsOpenCause salvage log.now) }
 {
     match restore(alloc, log) {
@@ -101,16 +110,20 @@ fn greeting(alloc: Global, version: &str, lines: usize) -> Result<Vec<u8>, Alloc
 pub(crate) fn open(
     alloc: Global,
     version: &str,
-    salvage: bool,
+    keeping: Keeping,
     log: Vec<u8>,
 ) -> Result<Opened, ServeFault>
-    ensures opened { IfOk result (IsOpenedFrom salvage version.now log.items) }
-    ensures cause { IfErr result (IsOpenCause salvage log.items) }
+    ensures opened { IfOk result (λ opened. (past : Past) → HasPast past log.items
+        → IsOpenedFrom keeping.salvage version.now past log.items opened) }
+    ensures within { IfOk result (λ opened. opened.bytes ≤ length log.items) }
+    ensures cause { IfErr result (IsOpenCause keeping.salvage log.items) }
 {
-    let Kept { restored, rest } = restore_or_salvage(alloc, salvage, &log)?;
+    let Kept { restored, rest } = restore_or_salvage(alloc, keeping.salvage, &log)?;
+    drop(log);
     let Restored {
         mut live,
         lines,
+        head,
         bytes,
     } = restored;
     let mut logged = Vec::new(alloc);
@@ -119,12 +132,19 @@ pub(crate) fn open(
     }
     end_all(alloc, &mut live, &mut logged)?;
     let greeting = greeting(alloc, version, lines)?;
+    let dump = match keeping.compacting.most(head, bytes) {
+        Some(most) => dumped(alloc, &live, most),
+        None => None,
+    };
+    let grown = bytes.saturating_sub(head).saturating_add(logged.len());
     Ok(Opened {
         live,
         lines,
         bytes,
         rest,
         logged,
+        dump,
+        growth: Growth::new(keeping.compacting, head, grown),
         greeting,
     })
 }
@@ -152,12 +172,29 @@ fn cut_rest<D: Devices>(opened: &Opened, devices: &mut D) -> Result<(), ServeFau
     Ok(())
 }
 
-/// Goes on with the log, and greets.
+/// Puts the dump in the place of the log, or appends the ends. Returns how far the log has grown then.
+fn go_on<D: Devices>(opened: &Opened, devices: &mut D) -> Result<Growth, ServeFault>
+    ensures done { OnOk result (HasGoneOn opened.now
+        (D.history devices.old) (D.history devices.new)) }
+    ensures part { OnErr result (HasGoneOnInPart opened.now
+        (D.history devices.old) (D.history devices.new)) }
+    ensures cause { IfErr result (IsSendCause (D.history devices.new)) }
+{
+    if let Some(dump) = &opened.dump {
+        if devices.replace(dump)? {
+            return Ok(opened.growth.replaced(dump.len()));
+        }
+    }
+    devices.append(&opened.logged)?;
+    Ok(opened.growth)
+}
+
+/// Goes on with the log, and greets. Returns how far the log has grown then.
 pub(crate) fn begin<D: Devices>(
     opened: &Opened,
     sync: bool,
     devices: &mut D,
-) -> Result<(), ServeFault>
+) -> Result<Growth, ServeFault>
     requires { opened.now.bytes ≤ length (held_after (D.history devices.old)).all }
     ensures begun { OnOk result ((salvage : Bool) (version bytes : Text)
         → D.history devices.old ≡ Read bytes ∷ []
@@ -168,10 +205,10 @@ pub(crate) fn begin<D: Devices>(
     ensures cause { IfErr result (IsSendCause (D.history devices.new)) }
 {
     cut_rest(opened, devices)?;
-    devices.append(&opened.logged)?;
+    let growth = go_on(opened, devices)?;
     if sync {
         devices.settle()?;
     }
     devices.write(&opened.greeting)?;
-    Ok(())
+    Ok(growth)
 }

@@ -19,6 +19,8 @@ const MANY: usize = 65_536;
 pub(crate) struct Unsent {
     pub said: Vec<u8>,
     pub logged: Vec<u8>,
+    /// How many bytes came to the log since these were counted last.
+    pub appended: usize,
 }
 
 impl Unsent {
@@ -30,6 +32,7 @@ impl Unsent {
         Unsent {
             said: Vec::new(alloc),
             logged: Vec::new(alloc),
+            appended: 0,
         }
     }
 
@@ -84,6 +87,7 @@ pub(crate) fn send<D: Devices>(
     ensures cause { IfErr result (IsSendCause (D.history devices.new)) }
 {
     put(sync, &unsent.logged, &unsent.said, devices)?;
+    unsent.appended = unsent.appended.saturating_add(unsent.logged.len());
     unsent.clear();
     Ok(())
 }

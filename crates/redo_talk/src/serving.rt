@@ -8,13 +8,14 @@ use crate::fault::ServeFault;
 use crate::keeping::Keeping;
 use crate::opening::{begin, open};
 use crate::talking::{Buffers, talk};
-use redo_log::{Devices, LOG_HEADER};
+use redo_log::Devices;
 use redo_whole::Watched;
 use std::alloc::Global;
 use std::io::Read;
 
-/// Restores a database from its log, ends the sessions that the log left, greets, and answers line after line until the
-/// input ends. A last line without LF is not answered.
+/// Restores a database from its log, ends the sessions that the log left, puts a dump of what is known then in the
+/// place of the log if it is time for that, greets, and answers line after line until the input ends. A last line
+/// without LF is not answered. When the log has grown far enough, a dump takes its place once more.
 ///
 /// What changes the database is logged before it is answered. After an operation fails, nothing more is done.
 pub fn serve<R: Read, D: Devices>(
@@ -35,14 +36,15 @@ pub fn serve<R: Read, D: Devices>(
     ensures read { IsErrAnd result (λ fault. fault ≡ ServeFault.Read)
         ↔ IsTrue (has_failed input.old input.new) }
 {
-    let log = devices.read(alloc, LOG_HEADER)?;
-    let mut opened = open(alloc, version, keeping.salvage, log)?;
+    let log = devices.read(alloc)?;
+    let mut opened = open(alloc, version, keeping, log)?;
     let buffers = Buffers::new(alloc)?;
-    begin(&opened, keeping.sync, devices)?;
+    let growth = begin(&opened, keeping.sync, devices)?;
     talk(
         alloc,
         &mut opened.live,
         keeping.sync,
+        growth,
         buffers,
         input,
         devices,

@@ -3,10 +3,13 @@ ghost use Rattle.std.specs.Io.KnownBytes.{IsAtEnd};
 ghost use Rattle.redo_whole.specs.Devices.{known_in};
 ghost use Rattle.redo_whole.specs.Watched.{has_failed};
 ghost use Rattle.redo_talk.specs.Inside.Places.{known_of};
-ghost use Rattle.redo_talk.specs.Inside.Talking.{AreEmpty, HasAnsweredAll, IsTalkCause, TalksFrom};
+ghost use Rattle.redo_talk.specs.Inside.Sending.{IsFollowedBy};
+ghost use Rattle.redo_talk.specs.Inside.Talking.{AreEmpty, HasAnsweredAll, IsTalkCause, IsTalkFault, TalksFrom};
 
 use crate::answering::{MOST_KEPT, answer_lines};
 use crate::fault::ServeFault;
+use crate::growth::Growth;
+use crate::midst::compact;
 use crate::sending::Unsent;
 use redo_live::Live;
 use redo_log::Devices;
@@ -36,11 +39,12 @@ impl Buffers {
 }
 
 /// Answers line after line, until the input ends. Answers are sent before more is read: lines that came together share
-/// one write. A last line without LF is not answered.
+/// one write. Then a dump may take the place of the log. A last line without LF is not answered.
 pub(crate) fn talk<R: Read, D: Devices>(
     alloc: Global,
     live: &mut Live,
     sync: bool,
+    mut growth: Growth,
     buffers: Buffers,
     input: &mut Watched<R>,
     devices: &mut D,
@@ -53,6 +57,8 @@ pub(crate) fn talk<R: Read, D: Devices>(
     ensures cause { IfErr result (λ fault. TalksFrom sync (known_of live.old)
         (known_in R.remaining input.old) (D.history devices.old) (λ start. IsTalkCause start
         (known_of live.new) (known_in R.remaining input.new) (D.history devices.new) fault)) }
+    ensures device { IfErr result (IsTalkFault (D.history devices.new)) }
+    ensures more { IsFollowedBy (D.history devices.old) (D.history devices.new) }
     ensures read { IsErrAnd result (λ fault. fault ≡ ServeFault.Read)
         ↔ IsTrue (has_failed input.old input.new) }
 {
@@ -77,6 +83,9 @@ pub(crate) fn talk<R: Read, D: Devices>(
             &mut unsent,
             devices,
         )?;
+        growth.add(unsent.appended);
+        unsent.appended = 0;
+        compact(alloc, live, &mut growth, devices)?;
     }
     Err(ServeFault::TooLong)
 }

@@ -3,7 +3,7 @@ use Rattle.std.proofs.Common.{◌≡◌, ◌∙◌, refl, sym, true, false, Bool
 use Rattle.clap.specs.Words.{Row, Text, first_of, first_value, found_of, rows_of}
 use Rattle.clap.specs.declared.parser.matches.ArgMatches.{ArgMatches}
 use Rattle.clap.proofs.WalkLemmas.{first_value-rows}
-use Rattle.redo_words.specs.LiveWords.{Asks, AsksForLog, IsGiven}
+use Rattle.redo_words.specs.LiveWords.{Asks, AsksForLog, HasNoFlag}
 use Rattle.redo_words.specs.declared.task.Conversation.{Conversation}
 use Rattle.redo_words.specs.declared.task.LogFile.{LogFile}
 
@@ -18,15 +18,13 @@ same_value a b same = cc
 
 -- without a log there are no flags
 pub no_flags : (rows : List Row) (conversation : Conversation) → first_of (codes "log") rows ≡ None
-    → Asks rows conversation
-    → (¬ (IsGiven (codes "sync") rows)) × (¬ (IsGiven (codes "salvage") rows))
+    → Asks rows conversation → HasNoFlag rows
 no_flags rows conversation none asks = go conversation.log asks
   where
-    go : (log : Option LogFile) → AsksForLog rows log
-        → (¬ (IsGiven (codes "sync") rows)) × (¬ (IsGiven (codes "salvage") rows))
-    go None asks = (asks.1, asks.2)
+    go : (log : Option LogFile) → AsksForLog rows log → HasNoFlag rows
+    go None asks = asks.1
     go (Some log) asks =
-        let bad : None ≡ Some (string_bytes log.name) = sym none ∙ asks.0 in absurd (cc)
+        let bad : None ≡ Some (string_bytes log.name) = sym none ∙ asks.name in absurd (cc)
 
 pub is_off : (b : Bool) (Given : Type 0) → (b ≡ true → Given) → ¬ Given → b ≡ false
 is_off true Given on off = absurd (off (on refl))

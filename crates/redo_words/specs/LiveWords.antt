@@ -21,21 +21,39 @@ nameless = record (new_app (codes "redodb-live")) {
 }
 
 -- a log, `--sync` and `--salvage`
-abbrev pub redodb_live : App
-redodb_live = with_rule (with_rule (with_rule nameless log_rule) (flag_rule (codes "sync")))
+abbrev pub log_app : App
+log_app = with_rule (with_rule (with_rule nameless log_rule) (flag_rule (codes "sync")))
     (flag_rule (codes "salvage"))
+
+-- `--compact` and `--whole`, too
+abbrev pub redodb_live : App
+redodb_live = with_rule (with_rule log_app (flag_rule (codes "compact")))
+    (flag_rule (codes "whole"))
 
 -- the flag was given
 abbrev pub IsGiven : Text → List Row → Type 0
 IsGiven flag rows = first_of flag rows ≡ Some (codes "true")
 
+-- the log and the flags that clap finds in the words: `--compact` and `--whole` exclude each other
+pub record AsksForFile (rows : List Row) (log : LogFile) : Type 0 where
+  pub name : first_of (codes "log") rows ≡ Some (string_bytes log.name)
+  pub sync : (log.sync ≡ true) ↔ IsGiven (codes "sync") rows
+  pub salvage : (log.salvage ≡ true) ↔ IsGiven (codes "salvage") rows
+  pub compact : (log.compact ≡ true) ↔ IsGiven (codes "compact") rows
+  pub whole : (log.whole ≡ true) ↔ IsGiven (codes "whole") rows
+  pub one : ¬ (IsGiven (codes "compact") rows × IsGiven (codes "whole") rows)
+
+-- no flag is among the words
+pub record HasNoFlag (rows : List Row) : Type 0 where
+  pub sync : ¬ (IsGiven (codes "sync") rows)
+  pub salvage : ¬ (IsGiven (codes "salvage") rows)
+  pub compact : ¬ (IsGiven (codes "compact") rows)
+  pub whole : ¬ (IsGiven (codes "whole") rows)
+
 -- what clap finds in the words: the log and its flags, or nothing
 abbrev pub AsksForLog : List Row → Option LogFile → Type 0
-AsksForLog rows None = (first_of (codes "log") rows ≡ None)
-    × (¬ (IsGiven (codes "sync") rows)) × (¬ (IsGiven (codes "salvage") rows))
-AsksForLog rows (Some log) = (first_of (codes "log") rows ≡ Some (string_bytes log.name))
-    × ((log.sync ≡ true) ↔ IsGiven (codes "sync") rows)
-    × ((log.salvage ≡ true) ↔ IsGiven (codes "salvage") rows)
+AsksForLog rows None = (first_of (codes "log") rows ≡ None) × HasNoFlag rows
+AsksForLog rows (Some log) = AsksForFile rows log
 
 abbrev pub Asks : List Row → Conversation → Type 0
 Asks rows conversation = AsksForLog rows conversation.log

@@ -1,6 +1,6 @@
 ghost use Rattle.std.specs.Prelude.{◌≡◌, ◌↔◌, ◌⊎◌, true, false, IfOk, IfErr, IfSome, IsSome, OnOk};
 ghost use Rattle.clap.specs.Words.{app_of, found_of, kind_of, rows_of, rule_of};
-ghost use Rattle.redo_words.specs.LiveWords.{redodb_live, flag_rule, log_rule, Asks, AskFor, AreFaultless, IsGiven};
+ghost use Rattle.redo_words.specs.LiveWords.{redodb_live, log_app, flag_rule, log_rule, Asks, AskFor, AreFaultless, IsGiven};
 
 use crate::fault::WordsFault;
 use crate::task::{Conversation, LogFile};
@@ -24,14 +24,24 @@ fn flag<'a>(alloc: Global, name: &'a str) -> Arg<'a>
     Arg::new(alloc, name).long(name).action(ArgAction::SetTrue)
 }
 
-fn command<'a>(alloc: Global) -> Result<Command<'a>, AllocError>
-    ensures { IfOk result (λ command. app_of command ≡ redodb_live) }
+/// A log, `--sync` and `--salvage`.
+fn with_log<'a>(alloc: Global) -> Result<Command<'a>, AllocError>
+    ensures { IfOk result (λ command. app_of command ≡ log_app) }
 {
     Command::new(alloc, "redodb-live")
         .no_binary_name(true)
         .arg(log(alloc))?
         .arg(flag(alloc, "sync"))?
         .arg(flag(alloc, "salvage"))
+}
+
+/// A log and its four flags.
+fn command<'a>(alloc: Global) -> Result<Command<'a>, AllocError>
+    ensures { IfOk result (λ command. app_of command ≡ redodb_live) }
+{
+    with_log(alloc)?
+        .arg(flag(alloc, "compact"))?
+        .arg(flag(alloc, "whole"))
 }
 
 /// Whether the flag is among the words.
@@ -45,7 +55,7 @@ fn is_given(matches: &ArgMatches<'_>, flag: &str) -> bool
     }
 }
 
-/// `None` if flags of a log are given without one.
+/// `None` if flags of a log are given without one, or two flags that exclude each other.
 fn conversation_of(
     alloc: Global,
     matches: &ArgMatches<'_>,
@@ -57,6 +67,11 @@ fn conversation_of(
 {
     let sync = is_given(matches, "sync");
     let salvage = is_given(matches, "salvage");
+    let compact = is_given(matches, "compact");
+    let whole = is_given(matches, "whole");
+    if compact && whole {
+        return Ok(None);
+    }
     match matches.get_str("log") {
         Some(name) => {
             let name = name.to_string(alloc)?;
@@ -64,10 +79,12 @@ fn conversation_of(
                 name,
                 sync,
                 salvage,
+                compact,
+                whole,
             });
             Ok(Some(Conversation { log }))
         }
-        None if sync || salvage => Ok(None),
+        None if sync || salvage || compact || whole => Ok(None),
         None => Ok(Some(Conversation { log: None })),
     }
 }

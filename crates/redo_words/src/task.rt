@@ -35,6 +35,10 @@ pub struct LogFile {
     pub sync: bool,
     /// Whether it is cut if it is damaged.
     pub salvage: bool,
+    /// Whether a dump takes the place of its lines in any case.
+    pub compact: bool,
+    /// Whether no dump ever takes their place. It isn't asked together with `compact`.
+    pub whole: bool,
 }
 
 /// What the words of `redodb-live` mean.

@@ -2,7 +2,7 @@
 use Rattle.std.specs.Prelude.{◌≡◌, ◌==◌, ℕ, List, [], slice_index, if◌then◌else◌, refl}
 use Rattle.std.specs.Coded.{Coded, code_by, coded×, coded_ℕ, coded_list}
 use Rattle.redo_model.specs.Names.{Text}
-use Rattle.redo_log.specs.Operations.{Operation, Read, Append, Cut, Sync, Revert, Copy, Write, LogFailed, OutputFailed}
+use Rattle.redo_log.specs.Operations.{Operation, Read, Append, Cut, Sync, Revert, Copy, Replace, Write, LogFailed, OutputFailed}
 
 -- what is noted of an operation
 abbrev pub Note : Type 0
@@ -18,6 +18,7 @@ note_of Copy = (5, (0, []))
 note_of (Write bytes) = (6, (0, bytes))
 note_of LogFailed = (7, (0, []))
 note_of OutputFailed = (8, (0, []))
+note_of (Replace bytes) = (9, (0, bytes))
 
 -- the operation of a note
 abbrev pub operation_of : Note → Operation
@@ -30,7 +31,8 @@ operation_of (kind, (size, bytes)) =
     else if kind == 5 then Copy
     else if kind == 6 then Write bytes
     else if kind == 7 then LogFailed
-    else OutputFailed
+    else if kind == 8 then OutputFailed
+    else Replace bytes
 
 -- an operation is that of its note
 pub operation_of-note_of : (operation : Operation) → operation_of (note_of operation) ≡ operation
@@ -43,6 +45,7 @@ operation_of-note_of Copy = refl
 operation_of-note_of (Write bytes) = refl
 operation_of-note_of LogFailed = refl
 operation_of-note_of OutputFailed = refl
+operation_of-note_of (Replace bytes) = refl
 
 -- the logic stores an operation as its note
 abbrev pub operation_code : Coded Operation

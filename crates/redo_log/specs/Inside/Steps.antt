@@ -9,7 +9,7 @@ use Rattle.redo_history.specs.HistoryFaults.{arrow}
 use Rattle.redo_history.specs.Inside.HistoryTexts.{IsLineSaid}
 use Rattle.redo_live.specs.Inside.LiveState.{LiveState, state_in, calls_in}
 use Rattle.redo_live.specs.Lines.{lines_text_of}
-use Rattle.redo_log.specs.Logs.{log_header, AreLogged, IsLogOf}
+use Rattle.redo_log.specs.Logs.{Past, past_lines, head_of, AreLogged, IsLogOf, IsPast}
 use Rattle.redo_log.specs.Restores.{IsLeftBy}
 
 -- the text is that of a session's command, and then of an arrow and whatever follows
@@ -41,13 +41,20 @@ pub record DoesNext (old new : LiveState) (left rest : Text) : Type 0 where
   pub only : (other : Line Text) (others : Text) → CanFollow old other
       → left ≡ line_text_of other ++ others → other ≡ line
 
+-- the lines of a log come after this past, whose state the database has
+pub record BeginsAfter (past : Past) (log lines : Text) (live : LiveState) : Type 0 where
+  pub is_past : IsPast past
+  pub parts : log ≡ head_of past ++ lines
+  pub left_by : IsLeftBy (past_lines past) live
+
 -- these lines were done, and this is left of the log; any lines that it is a log of begin with
 -- these
-pub record IsDoneUpTo (log : Text) (lines : List (Line Text)) (live : LiveState) (left : Text)
-    : Type 0 where
-  pub logged : AreLogged lines
-  pub left_by : IsLeftBy lines live
-  pub parts : log ≡ log_header ++ lines_text_of lines ++ left
-  pub only : (all : List (Line Text)) (torn : Text) → IsLogOf log all torn
+pub record IsDoneUpTo (past : Past) (log : Text) (lines : List (Line Text)) (live : LiveState)
+    (left : Text) : Type 0 where
+  pub is_past : IsPast past
+  pub logged : AreLogged (past_lines past ++ lines)
+  pub left_by : IsLeftBy (past_lines past ++ lines) live
+  pub parts : log ≡ head_of past ++ lines_text_of lines ++ left
+  pub only : (all : List (Line Text)) (torn : Text) → IsLogOf past log all torn
       → (others : List (Line Text)) × (all ≡ lines ++ others)
       × (left ≡ lines_text_of others ++ torn)

@@ -2,27 +2,29 @@
 use Rattle.std.specs.Prelude.{◌≡◌, ◌≢◌, ℕ, ◌+◌, ◌<◌, ◌≤◌, List, [], ◌∷◌, ◌++◌, Bool, Option, cond, filter, length, nat_eq, codes, decimal, ⊤}
 use Rattle.std.specs.List.{AllByRecursion, starts_with}
 use Rattle.redo_model.specs.Names.{Text, texts}
-use Rattle.redo_model.specs.State.{empty}
-use Rattle.redo_model.specs.History.{Line, left_by}
+use Rattle.redo_model.specs.History.{Line}
 use Rattle.redo_model.specs.Changes.{changing_from}
 use Rattle.redo_text.specs.Inquiries.{inquiry_text_of}
 use Rattle.redo_text.specs.declared.inquiries.Inquiry.TheVariants.{Why}
 use Rattle.redo_live.specs.Lines.{names_after}
-use Rattle.redo_log.specs.Logs.{IsLogOf}
+use Rattle.redo_log.specs.Logs.{Past, past_lines, IsLogOf}
 use Rattle.redo_log.specs.Operations.{Operation, Held, IsPrefix, held_after, written_by}
 use Rattle.redo_talk.specs.Rounds.{Round, Asks, fault_text_of, lines_in}
-use Rattle.redo_talk.specs.Talks.{Former, AreRestored, IsConversation, history_of, output_of}
+use Rattle.redo_talk.specs.Talks.{Former, AreRestored, IsConversation, lines_after, output_of, state_after}
 use Rattle.redo_talk.specs.declared.keeping.Keeping.{Keeping}
 
--- the history after these rounds
-abbrev pub lines_after : Former → List Round → List (Line Text)
-lines_after former rounds = history_of former ++ lines_in rounds
+-- the lines of a log that begins with what is known after the first of these rounds: the history up to there, and those
+-- of the lines since that change something
+abbrev pub logged_after : Former → List Round → List Round → List (Line Text)
+logged_after former before since =
+    lines_after former before
+    ++ changing_from texts (state_after former before) (lines_in since)
 
--- the lines of the log after these rounds: the history before them, and those of their lines that change something
-abbrev pub logged_after : Former → List Round → List (Line Text)
-logged_after former rounds =
-    history_of former
-    ++ changing_from texts (left_by texts empty (history_of former)) (lines_in rounds)
+-- the lines are those of a log after these rounds
+abbrev pub AreLoggedBy : Former → List Round → List (Line Text) → Type 0
+AreLoggedBy former rounds lines =
+    (before : List Round) × (since : List Round) × (rounds ≡ before ++ since)
+    × (lines ≡ logged_after former before since)
 
 -- the lines are few enough for the text of a history, and so are their sessions and names
 pub record AreFew (lines : List (Line Text)) : Type 0 where
@@ -35,31 +37,38 @@ abbrev pub rounds_of : ℕ → List Round → List Round
 rounds_of s rounds =
     filter (λ round. starts_with nat_eq round.heard (decimal (s + 1) ++ codes " ")) rounds
 
+-- the bytes are a log that ends with these lines, which begin with its past
+abbrev pub IsLogUpTo : Text → List (Line Text) → Text → Type 0
+IsLogUpTo bytes all torn =
+    (past : Past) × (lines : List (Line Text)) × IsLogOf past bytes lines torn
+    × (all ≡ past_lines past ++ lines)
+
 -- nothing was written, and the log restores the lines that were restored before, and maybe some of the ends after them
 pub record RestoresFormer (salvage : Bool) (former : Former) (now : List Operation) : Type 0 where
   pub written : written_by now ≡ []
   pub lines : List (Line Text)
-  pub restored : AreRestored salvage (held_after now).all lines
+  pub restored : AreRestored salvage former.past (held_after now).all lines
   pub more : List (Line Text)
   pub first : lines ≡ former.lines ++ more
   pub back : List (Line Text)
-  pub nothing_else : history_of former ≡ lines ++ back
+  pub nothing_else : former.lines ++ lines_in former.ends ≡ lines ++ back
 
 -- the bytes are a log: all lines that were logged up to the last answer that is written, or begun, and nothing else than
 -- what the rounds logged
 pub record IsLogBehind (version : Text) (former : Former) (rounds : List Round)
     (written bytes : Text) : Type 0 where
-  pub answered : List Round
+  pub before : List Round
+  pub since : List Round
   pub others : List Round
-  pub parts : rounds ≡ answered ++ others
-  pub said : IsPrefix written (output_of version former answered)
+  pub parts : rounds ≡ (before ++ since) ++ others
+  pub said : IsPrefix written (output_of version former (before ++ since))
   pub lines : List (Line Text)
   pub torn : Text
-  pub is_log : IsLogOf bytes lines torn
+  pub is_log : IsLogUpTo bytes lines torn
   pub more : List (Line Text)
-  pub first : lines ≡ logged_after former answered ++ more
+  pub first : lines ≡ logged_after former before since ++ more
   pub back : List (Line Text)
-  pub nothing_else : logged_after former rounds ≡ lines ++ back
+  pub nothing_else : logged_after former before (since ++ others) ≡ lines ++ back
 
 -- what may be left of a log that held this, if only what was synced is sure to be left, or all
 abbrev pub IsLeftOf : Bool → Held → Text → Type 0
@@ -72,11 +81,13 @@ RestoresAnswered sync version former rounds now =
     (left : Text) → IsLeftOf sync (held_after now) left
     → IsLogBehind version former rounds (written_by now) left
 
--- a conversation from there was led to an end, whatever it was read from, and however its log was kept
-abbrev pub HasLed : Text → Former → List Round → Text → List Operation → Type 0
-HasLed version former rounds rest done =
+-- a conversation from there, whose log begins with this base after so many rounds, was led to an end, whatever it was
+-- read from, and however its log was kept
+abbrev pub HasLed : Text → Text → ℕ → Former → List Round → Text → List Operation → Type 0
+HasLed version base count former rounds rest done =
     (keeping : Keeping) × (input : Option Text) × (input_after : Option Text)
-    × IsConversation keeping version former rounds rest input input_after done
+    × ((is : IsConversation keeping version former rounds rest input input_after done)
+    × (is.log.base ≡ base) × (length is.log.before ≡ count))
 
 -- the answer is not that memory or the counters ran out
 abbrev pub HasSufficed : Round → Type 0

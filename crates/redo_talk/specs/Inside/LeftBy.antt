@@ -1,14 +1,14 @@
 -- A database after a history.
-use Rattle.std.specs.Prelude.{◌≡◌, List, length}
+use Rattle.std.specs.Prelude.{◌≡◌, ◌≤◌, List, length}
 use Rattle.redo_model.specs.Names.{Text, texts}
 use Rattle.redo_model.specs.State.{empty}
 use Rattle.redo_model.specs.History.{Line, Legal, left_by}
 use Rattle.redo_live.specs.Lines.{names_after}
 use Rattle.redo_live.specs.Inside.LiveState.{LiveState, state_in, calls_in}
 
--- the database is in the state after this legal history, knows the names of its commands, and answered as many
+-- the database is in the state after this legal history, knows the names of its commands, and counts no more calls
 pub record IsLeftBy (live : LiveState) (before : List (Line Text)) : Type 0 where
   pub legal : Legal texts before
   pub names_are : live.names ≡ names_after before
   pub state_is : state_in live ≡ left_by texts empty before
-  pub calls_are : calls_in live ≡ length before
+  pub few_calls : calls_in live ≤ length before

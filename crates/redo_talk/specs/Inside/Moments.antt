@@ -1,21 +1,26 @@
 -- Moments of a conversation after its greeting: what was read and answered so far, and what waits to be sent.
-use Rattle.std.specs.Prelude.{◌≡◌, ◌⊎◌, Bool, cond, List, ◌++◌, Option, length}
+use Rattle.std.specs.Prelude.{◌≡◌, ◌⊎◌, ℕ, Bool, cond, List, ◌++◌, Option}
 use Rattle.std.specs.Io.KnownBytes.{Consumes}
 use Rattle.redo_model.specs.Names.{Text, texts}
 use Rattle.redo_model.specs.State.{empty}
 use Rattle.redo_model.specs.History.{left_by}
 use Rattle.redo_live.specs.Lines.{names_after}
+use Rattle.redo_log.specs.Logs.{AreLogged}
 use Rattle.redo_log.specs.Operations.{Operation, HasNoFailure, StopsAtFailure, held_after, written_by, IsAlways}
-use Rattle.redo_talk.specs.Rounds.{Round, heard_in, said_in}
-use Rattle.redo_talk.specs.Talks.{Former, AreLines, BeginsBy, IsBegun, IsLoggedFirst, history_of, log_of, output_of}
-use Rattle.redo_talk.specs.Inside.Steps.{Known, AreSteps}
+use Rattle.redo_talk.specs.Logs.{logged_of}
+use Rattle.redo_talk.specs.Rounds.{Round, heard_in, lines_in, said_in}
+use Rattle.redo_talk.specs.Talks.{Former, AreLines, BeginsBy, IsBegun, IsLogAfter, IsLoggedFirst, history_of, output_of, state_after}
+use Rattle.redo_talk.specs.Inside.Steps.{Known, AreSteps, LeadsTo}
 
--- how a conversation began: what was asked, what was restored from these bytes, and what is left to be read
+-- how a conversation began: what was asked, what was restored from these bytes, the log before the first answer, how
+-- many calls are counted, and what is left to be read
 pub record Start : Type 0 where
   pub sync : Bool
   pub version : Text
   pub bytes : Text
   pub former : Former
+  pub first : Text
+  pub calls : ℕ
   pub left : Option Text
 
 -- what is known before the first line
@@ -25,8 +30,13 @@ known_first start =
     record {
       names = names_after history;
       state = left_by texts empty history;
-      calls = length history;
+      calls = start.calls;
     }
+
+-- the history before the first line can be in a log, and leaves what is known then
+pub record IsStart (start : Start) : Type 0 where
+  pub led : LeadsTo (history_of start.former) (known_first start)
+  pub logged : AreLogged (history_of start.former)
 
 -- what is known, the bytes that are left to be read, and what was done
 pub record Moment : Type 0 where
@@ -43,11 +53,12 @@ pub record Waiting : Type 0 where
 abbrev pub IsSafe : Start → List Round → List Operation → Type 0
 IsSafe start rounds done =
     IsBegun start.bytes start.former done
-    ⊎ IsLoggedFirst start.sync start.version start.former rounds done
+    ⊎ IsLoggedFirst start.sync start.version start.first start.former rounds done
 
 -- since the start these rounds were read and sent, these were read and wait, and then these bytes were read
 pub record IsUnderWay (start : Start) (now : Moment) (waiting : Waiting) (more : Text) : Type 0
   where
+    pub is_start : IsStart start
     pub sent : List Round
     pub kept : List Round
     pub steps : AreSteps (known_first start) now.known (sent ++ kept)
@@ -56,10 +67,10 @@ pub record IsUnderWay (start : Start) (now : Moment) (waiting : Waiting) (more :
     pub begins : BeginsBy start.bytes start.former now.done
     pub fine : HasNoFailure now.done
     pub always : IsAlways (IsSafe start (sent ++ kept)) now.done
-    pub log : (held_after now.done).all ≡ log_of start.former sent
+    pub log : IsLogAfter start.former start.first sent (held_after now.done).all
     pub disk : cond start.sync (held_after now.done).synced (held_after now.done).all
-        ≡ log_of start.former sent
-    pub to_log : log_of start.former (sent ++ kept) ≡ log_of start.former sent ++ waiting.logged
+        ≡ (held_after now.done).all
+    pub to_log : logged_of (state_after start.former sent) (lines_in kept) ≡ waiting.logged
     pub output : written_by now.done ≡ output_of start.version start.former sent
     pub to_say : said_in kept ≡ waiting.said
 

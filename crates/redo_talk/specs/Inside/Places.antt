@@ -6,6 +6,7 @@ use Rattle.redo_log.specs.Operations.{Operation}
 use Rattle.redo_talk.specs.Inside.KeptLines.{IsPrefixOf}
 use Rattle.redo_talk.specs.Inside.Steps.{Known}
 use Rattle.redo_talk.specs.Inside.Moments.{Start, Moment, Waiting, IsUnderWay, IsBrokenOff}
+use Rattle.redo_talk.specs.Inside.Talking.{nothing}
 use Rattle.redo_talk.specs.declared.sending.Unsent.{Unsent}
 
 -- what a database knows
@@ -24,6 +25,10 @@ as_place live done unsent = record {
   done = done;
   waiting = record { said = unsent.said.items; logged = unsent.logged.items };
 }
+
+-- nothing waits to be sent
+abbrev pub idle_place : LiveState → List Operation → Place
+idle_place live done = record { known = known_of live; done = done; waiting = nothing }
 
 -- the moment at that place if these bytes are left to be read
 abbrev pub moment_at : Place → Option Text → Moment

@@ -15,6 +15,10 @@ refusal_word_of Memory = codes "memory"
 refusal_word_of Worn = codes "worn"
 refusal_word_of (Fault fault) = fault_word_of fault
 
+-- more was done, or nothing
+abbrev pub IsFollowedBy : List Operation → List Operation → Type 0
+IsFollowedBy done done_after = (later : List Operation) × (done_after ≡ later ++ done)
+
 -- after the bytes were appended, and synced if that is asked
 abbrev pub after_logging : Bool → Text → List Operation → List Operation
 after_logging sync logged done =

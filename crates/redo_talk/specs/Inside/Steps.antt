@@ -23,12 +23,12 @@ pub record Known : Type 0 where
   pub state : State Text
   pub calls : ℕ
 
--- the state after the history
+-- the state after the history; no more calls are counted
 pub record LeadsTo (lines : List (Line Text)) (known : Known) : Type 0 where
   pub legal : Legal texts lines
   pub names_are : known.names ≡ names_after lines
   pub state_is : known.state ≡ left_by texts empty lines
-  pub calls_are : known.calls ≡ length lines
+  pub few_calls : known.calls ≤ length lines
 
 -- a command was answered
 pub record Answering (old new : Known) (round : Round) : Type 0 where

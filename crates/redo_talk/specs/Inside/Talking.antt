@@ -1,11 +1,12 @@
 -- From its first line on, what a conversation comes to.
-use Rattle.std.specs.Prelude.{◌≡◌, ◌<◌, ◌≤◌, Bool, List, [], Option, IsTrue, length, vec_capacity}
+use Rattle.std.specs.Prelude.{◌≡◌, ◌<◌, ◌≤◌, Bool, List, [], Option, IsTrue, length, vec_capacity, ⊤}
 use Rattle.redo_model.specs.Names.{Text}
 use Rattle.redo_log.specs.Operations.{Operation}
 use Rattle.redo_talk.specs.Causes.{log_failed, output_failed}
 use Rattle.redo_talk.specs.Logs.{HasNoEnd}
 use Rattle.redo_talk.specs.Inside.Steps.{Known}
 use Rattle.redo_talk.specs.Inside.Moments.{Start, Waiting, IsUnderWay, IsBrokenOff}
+use Rattle.redo_talk.specs.Inside.Sending.{IsSendCause}
 use Rattle.redo_talk.specs.declared.fault.ServeFault.{ServeFault}
 use Rattle.redo_talk.specs.declared.fault.ServeFault.TheVariants.{Log, Read, TooLong, Write}
 use Rattle.redo_talk.specs.declared.talking.Buffers.{Buffers}
@@ -31,6 +32,12 @@ abbrev pub HasAnsweredAll : Start → Known → Option Text → List Operation �
 HasAnsweredAll start known left done =
     (more : Text) × HasNoEnd more
     × IsUnderWay start (record { known = known; left = left; done = done }) nothing more
+
+-- the fault is of the input, or of the device whose operation was the last
+abbrev pub IsTalkFault : List Operation → ServeFault → Type 0
+IsTalkFault done Read = ⊤
+IsTalkFault done TooLong = ⊤
+IsTalkFault done fault = IsSendCause done fault
 
 module _ (start : Start) (known : Known) (left : Option Text) (done : List Operation) where
   -- why it ended

@@ -6,6 +6,7 @@ use Rattle.redo_talk.specs.Inside.Places.{known_of}
 use Rattle.redo_talk.proofs.Outcomes.{ok_then, err_then}
 use Rattle.redo_talk.proofs.Responding.{goes_on_by, same_waiting, told_goes_on, untold_breaks_off}
 use Rattle.redo_talk.proofs.Unanswered.{replied_is_step, refusing_memory}
+use Rattle.redo_talk.proofs.Following.{follows_itself, telling_follows}
 use Rattle.redo_talk.proofs.answering.answer_line.Goals as goal
 
 pub returns-in-Ok-clause-talk : goal.returns-in-Ok-clause-talk
@@ -62,3 +63,14 @@ returns-in-Err-clause-broken g c =
     (same_waiting start left (known_of c.args.live.now) done c.args.unsent.now.logged.items
     c.args.unsent.now.said.items c.reply.new.logged.items c.reply.new.said.items
     (ended whole ++ more) c.in-Err.ensures.untold.logs c.in-Err.ensures.untold.says talk))
+
+pub returns-in-Ok-clause-more : goal.returns-in-Ok-clause-more
+returns-in-Ok-clause-more g c = follows_itself (g.D.Devices.history c.args.devices.now)
+
+pub returns-in-Err-clause-more : goal.returns-in-Err-clause-more
+returns-in-Err-clause-more g c =
+    telling_follows c.tell_fault.result c.args.sync c.reply.new.logged.items
+    c.tell_fault.new.unsent.logged.items c.reply.new.said.items c.tell_fault.new.unsent.said.items
+    (fault_text_of (decimal c.without_memory.result.number) c.without_memory.result.word.now)
+    (g.D.Devices.history c.args.devices.now) (g.D.Devices.history c.tell_fault.new.devices)
+    c.tell_fault.ensures.told c.tell_fault.ensures.part

@@ -4,6 +4,7 @@ use Rattle.redo_talk.specs.Inside.Places.{TalksAt, known_of, as_place}
 use Rattle.redo_talk.proofs.Prefixes.{prefix_more, prefix_of_none, next_line}
 use Rattle.redo_talk.proofs.Outcomes.{on_err, ok_by_three, err_then}
 use Rattle.redo_talk.proofs.Responding.{sending_goes_on, sending_breaks_off}
+use Rattle.redo_talk.proofs.Following.{follows_all, follows_itself, sending_follows}
 use Rattle.redo_talk.proofs.answering.answer_lines.Goals as goal
 
 pub lines-init : goal.lines-init
@@ -11,6 +12,7 @@ lines-init g c = record {
   room = c.requires.room;
   few = c.requires.few;
   talk = λ begun is start left same talk. (begun, is, talk);
+  more = follows_itself (g.D.Devices.history c.args.devices.now);
 }
 
 pub answer_piece-requires-clause-room : goal.answer_piece-requires-clause-room
@@ -67,6 +69,12 @@ lines-preserved g c = record {
             (next_line line c.lines.rest.now c.in-Some.piece.now c.in-Some.after.now
             c.in-Some.ensures.0) at)),
       );
+  more = follows_all (g.D.Devices.history c.args.devices.now)
+      (g.D.Devices.history c.answer_piece.new.devices)
+      (g.D.Devices.history c.send_much.new.devices)
+      (follows_all (g.D.Devices.history c.args.devices.now) (g.D.Devices.history c.lines.devices)
+      (g.D.Devices.history c.answer_piece.new.devices) c.lines.invariant.more
+      c.answer_piece.ensures.more) c.send_much.ensures.more;
 }
 
 pub keep-requires-clause-room : goal.keep-requires-clause-room
@@ -104,3 +112,25 @@ returns-clause-broken g c =
     c.lines.unsent.logged.items c.send.new.unsent.logged.items
     c.lines.unsent.said.items c.send.new.unsent.said.items (line ++ c.lines.rest.now)
     part start left same at)
+
+pub returns-in_err-answer_piece-clause-more : goal.returns-in_err-answer_piece-clause-more
+returns-in_err-answer_piece-clause-more g c =
+    follows_all (g.D.Devices.history c.args.devices.now) (g.D.Devices.history c.lines.devices)
+    (g.D.Devices.history c.answer_piece.new.devices) c.lines.invariant.more
+    c.answer_piece.ensures.more
+
+pub returns-in_err-send_much-clause-more : goal.returns-in_err-send_much-clause-more
+returns-in_err-send_much-clause-more g c =
+    follows_all (g.D.Devices.history c.args.devices.now)
+    (g.D.Devices.history c.answer_piece.new.devices) (g.D.Devices.history c.send_much.new.devices)
+    (follows_all (g.D.Devices.history c.args.devices.now) (g.D.Devices.history c.lines.devices)
+    (g.D.Devices.history c.answer_piece.new.devices) c.lines.invariant.more
+    c.answer_piece.ensures.more) c.send_much.ensures.more
+
+pub returns-clause-more : goal.returns-clause-more
+returns-clause-more g c =
+    follows_all (g.D.Devices.history c.args.devices.now) (g.D.Devices.history c.lines.devices)
+    (g.D.Devices.history c.send.new.devices) c.lines.invariant.more
+    (sending_follows c.send.result c.args.sync c.lines.unsent.logged.items
+    c.lines.unsent.said.items (g.D.Devices.history c.lines.devices)
+    (g.D.Devices.history c.send.new.devices) c.send.ensures.sent c.send.ensures.part)

@@ -2,6 +2,7 @@ use Rattle.std.proofs.Common.{◌≤◌, ◌++◌, length, vec_capacity}
 use Rattle.redo_model.specs.Names.{Text}
 use Rattle.redo_talk.specs.Inside.KeptLines.{IsPrefixOf}
 use Rattle.redo_talk.specs.Inside.Places.{GoesOnInLine, as_place}
+use Rattle.redo_talk.specs.Inside.Sending.{IsFollowedBy}
 use Rattle.redo_talk.proofs.answering.answer_lines.Given as goal
 
 abbrev pub invariant-lines : goal.invariant-lines
@@ -12,6 +13,7 @@ invariant-lines g l = record {
       (as_place l.initial.live (g.D.Devices.history l.initial.devices) l.initial.unsent)
       (as_place l.live (g.D.Devices.history l.devices) l.unsent)
       (begun ++ l.initial.bytes) l.prefix.items l.rest;
+  more : IsFollowedBy (g.D.Devices.history l.initial.devices) (g.D.Devices.history l.devices);
 }
 
 abbrev pub decreases-lines : goal.decreases-lines

@@ -1,6 +1,7 @@
 use Rattle.redo_talk.specs.Inside.Places.{known_of}
 use Rattle.redo_talk.proofs.Responding.{sending_goes_on, sending_breaks_off}
 use Rattle.redo_talk.proofs.Outcomes.{on_err}
+use Rattle.redo_talk.proofs.Following.{part_follows, sent_follows}
 use Rattle.redo_talk.proofs.answering.send_much.Goals as goal
 
 pub returns-in_ok-send-clause-talk : goal.returns-in_ok-send-clause-talk
@@ -20,3 +21,15 @@ returns-in_err-send-clause-broken g c =
     c.args.unsent.now.logged.items c.send.new.unsent.logged.items
     c.args.unsent.now.said.items c.send.new.unsent.said.items more
     c.in_err-send.ensures.part)
+
+pub returns-in_ok-send-clause-more : goal.returns-in_ok-send-clause-more
+returns-in_ok-send-clause-more g c =
+    sent_follows c.args.sync c.args.unsent.now.logged.items c.args.unsent.now.said.items
+    (g.D.Devices.history c.args.devices.now) (g.D.Devices.history c.send.new.devices)
+    c.in_ok-send.ensures.sent
+
+pub returns-in_err-send-clause-more : goal.returns-in_err-send-clause-more
+returns-in_err-send-clause-more g c =
+    part_follows c.args.sync c.args.unsent.now.logged.items c.args.unsent.now.said.items
+    (g.D.Devices.history c.args.devices.now) (g.D.Devices.history c.send.new.devices)
+    c.in_err-send.ensures.part

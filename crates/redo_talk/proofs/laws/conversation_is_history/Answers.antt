@@ -1,5 +1,6 @@
-use Rattle.redo_talk.specs.Inside.Laws.{lines_after}
-use Rattle.redo_talk.proofs.LawfulTalks.{all_logged, history_text}
+use Rattle.redo_talk.specs.Talks.{lines_after}
+use Rattle.redo_talk.proofs.LawfulHistories.{history_text}
+use Rattle.redo_talk.proofs.LawfulTalks.{all_logged}
 use Rattle.redo_talk.proofs.laws.conversation_is_history.Goals as goal
 
 pub returns : goal.returns

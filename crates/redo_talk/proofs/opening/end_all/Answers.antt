@@ -49,5 +49,5 @@ returns c = λ before logged left.
     (take_all i items past ∙ c.deref-session-items.ensures.value)
     (c.loop-session.invariant before logged left) in
     all_ended before c.args.live.now c.loop-session.live left sessions c.args.logged.now.items
-    c.loop-session.logged.items all c.in_ok-sessions.ensures.distinct
+    c.loop-session.logged.items all logged c.in_ok-sessions.ensures.distinct
     c.in_ok-sessions.ensures.holders c.in_ok-sessions.ensures.builders

@@ -1,10 +1,11 @@
-use Rattle.std.proofs.Common.{ℕ, List, ◌++◌, refl, ap, ◌∙◌, subst, inl, inr}
-use Rattle.redo_log.specs.Logs.{log_header}
+use Rattle.std.proofs.Common.{◌≤◌, ℕ, List, ◌++◌, length, refl, sym, ap, ◌∙◌, subst, inl, inr}
+use Rattle.std.specs.Prelude.{IfSome}
+use Rattle.redo_log.specs.Logs.{log_header, past_lines, HasPast}
 use Rattle.std.proofs.lemmas.Result.{err_from_is_err_and}
 use Rattle.redo_talk.specs.Inside.Opening.{IsKeptFrom}
-use Rattle.redo_talk.proofs.OpeningEnds.{IsHeaderIfNone, opened_from}
+use Rattle.redo_talk.proofs.OpeningEnds.{IsDumpOf, IsHeaderIfNone, opened_from}
 use Rattle.redo_talk.proofs.opening.open.Goals as goal
-use Rattle.redo_talk.proofs.opening.open.Goals.{then-bytes-eq0+in_ok-extend_from_slice, else-bytes-eq0}
+use Rattle.redo_talk.proofs.opening.open.Goals.{then-bytes-eq0+in_ok-extend_from_slice, else-bytes-eq0, in-Some, in-None}
 
 pub returns-in_err-extend_from_slice-clause-cause : goal.returns-in_err-extend_from_slice-clause-cause
 returns-in_err-extend_from_slice-clause-cause c =
@@ -25,11 +26,12 @@ returns-in_err-greeting-clause-cause c =
     rw (p.1, p.2) tt
 
 pub returns-clause-opened : goal.returns-clause-opened
-returns-clause-opened c =
+returns-clause-opened c = λ past has.
     let kept = c.in_ok-restored.field-0 in
-    let is : IsKeptFrom c.args.salvage c.args.log.items kept =
-    subst (λ (t : List ℕ). IsKeptFrom c.args.salvage t kept) c.deref.ensures.value
-    c.in_ok-restored.ensures.kept in
+    let is : IsKeptFrom c.args.keeping.salvage past c.args.log.items kept =
+    subst (λ (t : List ℕ). IsKeptFrom c.args.keeping.salvage past t kept) c.deref.ensures.value
+    (c.in_ok-restored.ensures.kept past
+    (subst (λ (t : List ℕ). HasPast past t) (sym c.deref.ensures.value) has)) in
     let header = c.if-bytes-eq0.logged.items in
     let header_is : IsHeaderIfNone kept.restored.bytes header =
     elim c.if-bytes-eq0.branch [
@@ -43,13 +45,29 @@ returns-clause-opened c =
         ap (λ v. v.items) w.logged-is ∙ c.new-logged.ensures.items,
       )
     ] in
-    opened_from c.args.salvage c.args.version.now c.args.log.items kept is header header_is
+    let dump_is : IfSome c.match-most.dump (λ dump. IsDumpOf c.end_all.new.live dump.items) =
+    elim c.match-most.branch [
+      | in-Some w ↦ subst (λ o. IfSome o (λ dump. IsDumpOf c.end_all.new.live dump.items))
+          (sym w.dump-is) w.dumped-dump.ensures
+      | in-None w ↦ subst (λ o. IfSome o (λ dump. IsDumpOf c.end_all.new.live dump.items))
+          (sym w.dump-is) tt
+    ] in
+    opened_from c.args.keeping.salvage c.args.version.now past c.args.log.items kept is header
+    header_is
     (record {
       live = c.end_all.new.live;
       lines = kept.restored.lines;
       bytes = kept.restored.bytes;
       rest = kept.rest;
       logged = c.end_all.new.logged;
+      dump = c.match-most.dump;
+      growth = c.new.result;
       greeting = c.in_ok-greeting.greeting;
     })
-    (c.in_ok-end_all.ensures is.lines is.logged is.left) refl refl c.in_ok-greeting.ensures
+    (c.in_ok-end_all.ensures (past_lines past ++ is.lines) is.logged is.left) refl refl dump_is
+    c.in_ok-greeting.ensures
+
+pub returns-clause-within : goal.returns-clause-within
+returns-clause-within c =
+    subst (λ (t : List ℕ). c.in_ok-restored.field-0.restored.bytes ≤ length t)
+    c.deref.ensures.value c.in_ok-restored.ensures.within

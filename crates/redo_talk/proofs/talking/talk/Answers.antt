@@ -2,11 +2,12 @@ use Rattle.std.proofs.Common.{◌≡◌, ◌≤◌, ◌==◌, not, [], ◌++◌,
 use Rattle.std.specs.Io.KnownBytes.{Consumes}
 use Rattle.std.proofs.lemmas.Grind.{common_steps}
 use Rattle.std.proofs.lemmas.Result.{err_from_is_err_and}
-use Rattle.redo_whole.specs.Watched.{inner_of, failures_of, has_failed}
+use Rattle.redo_whole.specs.Watched.{inner_of, failures_of}
 use Rattle.redo_talk.specs.Inside.Places.{TalksAt, known_of, as_place}
-use Rattle.redo_talk.proofs.Talked.{kept_left, read_more, read_none, answered_all, send_cause_talks}
+use Rattle.redo_talk.proofs.Talked.{kept_left, none_waiting, read_more, read_none, answered_all, send_cause_talks, waiting_again}
 use Rattle.redo_talk.proofs.Prefixes.{prefix_of_none}
 use Rattle.redo_talk.proofs.Responding.{same_waiting}
+use Rattle.redo_talk.proofs.Following.{follows_all, follows_itself, send_fault_talks}
 use Rattle.redo_talk.proofs.talking.talk.Goals as goal
 
 pub reads-init : goal.reads-init
@@ -27,6 +28,7 @@ reads-init g c =
             c.new-unsent.result.logged.items c.new-unsent.result.said.items []
             c.new-unsent.ensures.logged c.new-unsent.ensures.said way,
       );
+      more = follows_itself done;
     }
 
 pub returns-in_default-clause-cause : goal.returns-in_default-clause-cause
@@ -106,6 +108,9 @@ reads-preserved g c = record {
       let place = as_place c.reads.live (g.D.Devices.history c.reads.devices) c.reads.unsent in
       let again : c.deref.result.now ≡ c.read.new.buf = grind (arith, common_steps) in
       let bytes = take c.in-Some.count c.read.new.buf in
+      let live = c.answer_lines.new.live in
+      let unsent = c.answer_lines.new.unsent in
+      let done = g.D.Devices.history c.answer_lines.new.devices in
       let (later, new_prefix, new_at) = c.in_ok-answer_lines.ensures.talk begun prefix start left'
       same
       (subst (λ t. TalksAt start left' place (begun ++ take c.in-Some.count t)) (sym again)
@@ -114,10 +119,18 @@ reads-preserved g c = record {
       c.in-Some.ensures.given)) in (
         later,
         new_prefix,
-        subst (TalksAt start left'
-            (as_place c.answer_lines.new.live (g.D.Devices.history c.answer_lines.new.devices)
-            c.answer_lines.new.unsent)) (append-nil later) new_at,
+        waiting_again start left' live (g.D.Devices.history c.compact.new.devices) unsent later
+            c.in_ok-answer_lines.ensures.none_logged c.in_ok-answer_lines.ensures.none_said
+            (c.in_ok-compact.ensures.talk c.args.sync later start left' same
+            (none_waiting start left' live done unsent later
+            c.in_ok-answer_lines.ensures.none_logged c.in_ok-answer_lines.ensures.none_said
+            (subst (TalksAt start left' (as_place live done unsent)) (append-nil later) new_at))),
       );
+  more = follows_all (g.D.Devices.history c.args.devices.now)
+      (g.D.Devices.history c.answer_lines.new.devices) (g.D.Devices.history c.compact.new.devices)
+      (follows_all (g.D.Devices.history c.args.devices.now) (g.D.Devices.history c.reads.devices)
+      (g.D.Devices.history c.answer_lines.new.devices) c.reads.invariant.more
+      c.answer_lines.ensures.more) c.compact.ensures.more;
 }
 
 pub returns-clause-cause : goal.returns-clause-cause
@@ -126,3 +139,57 @@ returns-clause-cause g c = λ start same way.
     answered_all start (known_of c.reads.live) (g.R.Read.remaining (inner_of c.reads.input))
     (g.D.Devices.history c.reads.devices) c.reads.unsent.logged.items c.reads.unsent.said.items
     begun c.reads.invariant.none_logged c.reads.invariant.none_said prefix.unended at
+
+pub returns-in_err-answer_lines-clause-device : goal.returns-in_err-answer_lines-clause-device
+returns-in_err-answer_lines-clause-device g c =
+    let p = err_from_is_err_and c.from_residual.result c.from_residual.ensures.1 in
+    rw (p.1, p.2) (send_fault_talks (g.D.Devices.history c.answer_lines.new.devices)
+    c.in_err-answer_lines.field-0.0 c.in_err-answer_lines.ensures.cause)
+
+pub returns-in_err-answer_lines-clause-more : goal.returns-in_err-answer_lines-clause-more
+returns-in_err-answer_lines-clause-more g c =
+    follows_all (g.D.Devices.history c.args.devices.now) (g.D.Devices.history c.reads.devices)
+    (g.D.Devices.history c.answer_lines.new.devices) c.reads.invariant.more
+    c.answer_lines.ensures.more
+
+pub returns-in_err-compact-clause-cause : goal.returns-in_err-compact-clause-cause
+returns-in_err-compact-clause-cause g c =
+    let p = err_from_is_err_and c.from_residual-in_err-compact.result
+    c.from_residual-in_err-compact.ensures.1 in
+    rw (p.1, p.2) (λ start same way.
+    let (begun, prefix, at) = c.reads.invariant.talk start same way in
+    let left = g.R.Read.remaining (inner_of c.reads.input) in
+    let left' = g.R.Read.remaining (inner_of c.read.new.self) in
+    let place = as_place c.reads.live (g.D.Devices.history c.reads.devices) c.reads.unsent in
+    let again : c.deref.result.now ≡ c.read.new.buf = grind (arith, common_steps) in
+    let bytes = take c.in-Some.count c.read.new.buf in
+    let live = c.answer_lines.new.live in
+    let unsent = c.answer_lines.new.unsent in
+    let done = g.D.Devices.history c.answer_lines.new.devices in
+    let (later, new_prefix, new_at) = c.in_ok-answer_lines.ensures.talk begun prefix start left'
+    same
+    (subst (λ t. TalksAt start left' place (begun ++ take c.in-Some.count t)) (sym again)
+    (read_more start (known_of c.reads.live) left left' (g.D.Devices.history c.reads.devices)
+    c.reads.unsent.logged.items c.reads.unsent.said.items begun at bytes
+    c.in-Some.ensures.given)) in
+    send_cause_talks start (known_of live) left' (g.D.Devices.history c.compact.new.devices)
+    c.in_err-compact.field-0.0 c.in_err-compact.ensures.cause
+    (c.in_err-compact.ensures.broken c.args.sync later start left' same
+    (none_waiting start left' live done unsent later
+    c.in_ok-answer_lines.ensures.none_logged c.in_ok-answer_lines.ensures.none_said
+    (subst (TalksAt start left' (as_place live done unsent)) (append-nil later) new_at))))
+
+pub returns-in_err-compact-clause-device : goal.returns-in_err-compact-clause-device
+returns-in_err-compact-clause-device g c =
+    let p = err_from_is_err_and c.from_residual-in_err-compact.result
+    c.from_residual-in_err-compact.ensures.1 in
+    rw (p.1, p.2) (send_fault_talks (g.D.Devices.history c.compact.new.devices)
+    c.in_err-compact.field-0.0 c.in_err-compact.ensures.cause)
+
+pub returns-in_err-compact-clause-more : goal.returns-in_err-compact-clause-more
+returns-in_err-compact-clause-more g c =
+    follows_all (g.D.Devices.history c.args.devices.now)
+    (g.D.Devices.history c.answer_lines.new.devices) (g.D.Devices.history c.compact.new.devices)
+    (follows_all (g.D.Devices.history c.args.devices.now) (g.D.Devices.history c.reads.devices)
+    (g.D.Devices.history c.answer_lines.new.devices) c.reads.invariant.more
+    c.answer_lines.ensures.more) c.compact.ensures.more

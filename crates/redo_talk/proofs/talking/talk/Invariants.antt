@@ -3,6 +3,7 @@ use Rattle.redo_model.specs.Names.{Text}
 use Rattle.redo_whole.specs.Watched.{inner_of, failures_of}
 use Rattle.redo_talk.specs.Inside.KeptLines.{IsPrefixOf}
 use Rattle.redo_talk.specs.Inside.Places.{TalksAt, known_of, as_place}
+use Rattle.redo_talk.specs.Inside.Sending.{IsFollowedBy}
 use Rattle.redo_talk.specs.Inside.Talking.{TalksFrom}
 use Rattle.redo_talk.proofs.talking.talk.Given as goal
 
@@ -19,4 +20,5 @@ invariant-reads g l = record {
       (λ start. (begun : Text) × IsPrefixOf begun l.prefix.items
       × TalksAt start (g.R.Read.remaining (inner_of l.input))
       (as_place l.live (g.D.Devices.history l.devices) l.unsent) begun);
+  more : IsFollowedBy (g.D.Devices.history l.initial.devices) (g.D.Devices.history l.devices);
 }

@@ -1,0 +1,43 @@
+//! A log that begins with a dump of what is known.
+ghost use Rattle.std.specs.Prelude.{◌≡◌, ◌++◌, List, Some, IfOk, IfSome};
+ghost use Rattle.redo_model.specs.History.{Line};
+ghost use Rattle.redo_model.specs.Names.{Text};
+ghost use Rattle.redo_live.specs.Inside.LiveState.{state_in};
+ghost use Rattle.redo_dump.specs.Dumps.{HasSessions, IsStateOver, dump_of};
+ghost use Rattle.redo_log.specs.Logs.{dump_header, head_of, AreLogged, IsPast};
+ghost use Rattle.redo_talk.specs.Inside.LeftBy.{IsLeftBy};
+
+use redo_dump::dump;
+use redo_live::Live;
+use redo_log::{DUMP_HEADER, restore};
+use std::alloc::{AllocError, Global};
+
+/// The bytes, if memory suffices, of a log that begins with a dump of what is known.
+fn dump_log(alloc: Global, live: &Live) -> Result<Vec<u8>, AllocError>
+    ensures log { IfOk result (λ log. log.items
+        ≡ dump_header ++ dump_of live.now.names (state_in live.now)) }
+    ensures over { IfOk result (λ log. HasSessions (state_in live.now)
+        → IsStateOver live.now.names (state_in live.now)) }
+{
+    let text = dump(alloc, live)?;
+    let mut log = Vec::from_slice(alloc, DUMP_HEADER)?;
+    log.extend_from_slice(&text.head)?;
+    log.extend_from_slice(&text.body)?;
+    Ok(log)
+}
+
+/// A log that begins with a dump of what is known, if it has at most so many bytes, can be restored, and memory
+/// suffices.
+pub(crate) fn dumped(alloc: Global, live: &Live, most: usize) -> Option<Vec<u8>>
+    ensures { IfSome result (λ log. (before : List (Line Text)) → AreLogged before
+        → IsLeftBy live.now before → IsPast (Some before)
+        × (log.items ≡ head_of (Some before))) }
+{
+    let Ok(log) = dump_log(alloc, live) else {
+        return None;
+    };
+    if log.len() > most || restore(alloc, &log).is_err() {
+        return None;
+    }
+    Some(log)
+}
