@@ -1,34 +1,16 @@
-//! Digests of content.
+//! The digest of much content. Those of little are in a history that the program replays.
 use redo_records::digest_of;
-use std::alloc::Global;
-use std::process::Abort;
-use std::test::Fail;
+use std::alloc::AllocError;
 
-/// The digest of the content has these digits.
-fn check(rt: &impl Abort, alloc: Global, content: &[u8], want: &str) -> Result<(), Fail> {
-    let digits = hex::encode(alloc, digest_of(content))?;
-    assert!(rt; digits.as_bytes() == want.as_bytes());
-    Ok(())
-}
+/// The digest of a million `a` in the standard for SHA-1.
+const OF_A_MILLION: [u8; 20] = [
+    0x34, 0xaa, 0x97, 0x3c, 0xd4, 0xc4, 0xda, 0xa4, 0xf6, 0x1e, 0xeb, 0x2b, 0xdb, 0xad, 0x27, 0x31,
+    0x65, 0x34, 0x01, 0x6f,
+];
 
-/// The test vectors of the standard for SHA-1, and the digest of no bytes.
 #[test]
-fn digests(rt: HostRuntime) -> Result<(), Fail> {
-    let alloc = rt.alloc();
-    check(&rt, alloc, b"", "da39a3ee5e6b4b0d3255bfef95601890afd80709")?;
-    check(
-        &rt,
-        alloc,
-        b"abc",
-        "a9993e364706816aba3e25717850c26c9cd0d89d",
-    )?;
-    let some = b"abcdbcdecdefdefgefghfghighijhijkijkljklmklmnlmnomnopnopq";
-    check(&rt, alloc, some, "84983e441c3bd26ebaae4aa1f95129e5e54670f1")?;
-    let million = Vec::from_elem(alloc, b'a', 1_000_000)?;
-    check(
-        &rt,
-        alloc,
-        &million,
-        "34aa973cd4c4daa4f61eeb2bdbad27316534016f",
-    )
+fn digest_of_a_million(rt: HostRuntime) -> Result<(), AllocError> {
+    let million = Vec::from_elem(rt.alloc(), b'a', 1_000_000)?;
+    assert!(rt; digest_of(&million) == OF_A_MILLION);
+    Ok(())
 }

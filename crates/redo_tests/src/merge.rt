@@ -1,12 +1,5 @@
-//! Merging: a search over all orders, and journals that are drawn and changed.
-mod cases;
-mod changed;
+//! Journals that were worked out by hand, and the histories that they are merged to.
 mod closings;
-mod drawn;
-mod exhaustive;
 mod guarded;
+mod lines;
 mod merging;
-mod orders;
-mod plans;
-mod rules;
-mod told;

@@ -5,7 +5,7 @@ ghost use Rattle.redo_model.specs.Renaming.{AllBelow, IsBelow, IsReplyBelow, IsL
 ghost use Rattle.redo_terms.specs.Meaning.{command_of, reply_of, line_of};
 
 use redo_history::{HistoryFault, history_text};
-use redo_journal::{Entry, Journal, Place, Plan, are_journals};
+use redo_journal::{Journal, Plan, are_journals};
 use redo_merge::merge;
 use redo_replay::{Verdict, replay};
 use redo_terms::{Command, Kind, Line, Refusal, Reply};
@@ -80,17 +80,6 @@ pub(crate) fn text_of(
     history_text(alloc, lines, names)
 }
 
-/// The text of the history that the journals are merged to.
-pub(crate) fn history_of(
-    rt: &impl Abort,
-    alloc: Global,
-    plan: &Plan,
-    journals: &[Journal],
-) -> Result<Vec<u8>, AllocError> {
-    let lines = merged(rt, alloc, plan, journals)?;
-    text_of(rt, alloc, plan, &lines)
-}
-
 /// Whether the history of this text, which has no fault, replays as `same`, with this many lines.
 fn is_replayed(
     rt: &impl Abort,
@@ -151,24 +140,4 @@ pub(crate) fn counted(lines: &[Line]) -> Totals {
         }
     }
     all
-}
-
-/// How many entries are at rows.
-fn row_count(entries: &[Entry]) -> usize {
-    let mut rows: usize = 0;
-    for entry in entries {
-        if let Place::Row(_) = entry.place {
-            rows = rows.saturating_add(1);
-        }
-    }
-    rows
-}
-
-/// How many entries of the journals are at rows.
-pub(crate) fn rows_in(journals: &[Journal]) -> usize {
-    let mut rows: usize = 0;
-    for journal in journals {
-        rows = rows.saturating_add(row_count(&journal.entries));
-    }
-    rows
 }

@@ -1,4 +1,5 @@
-//! Tests of the board: sessions on threads of their own, and every schedule of small plans.
+//! Tests of the board and of its gates: sessions on threads of their own, and every schedule of
+//! small plans.
 #![tactic(auto)]
 
 #[cfg(test)]
@@ -14,22 +15,14 @@ mod guarded;
 #[cfg(test)]
 mod histories;
 #[cfg(test)]
-mod leaving;
-#[cfg(test)]
 mod order;
 #[cfg(test)]
 mod outcomes;
-#[cfg(test)]
-mod refusals;
 #[cfg(test)]
 mod schedules;
 #[cfg(test)]
 mod seats;
 #[cfg(test)]
-mod threads;
-#[cfg(test)]
 mod whole_runs;
 #[cfg(test)]
 mod worked;
-#[cfg(test)]
-mod workers;

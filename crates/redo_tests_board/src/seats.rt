@@ -1,11 +1,11 @@
-//! Seats at the board of a plan.
-ghost use Rattle.std.specs.Prelude.{ℕ, ◌<◌, length};
+//! Seats at the board of a plan, and their workers.
+ghost use Rattle.std.specs.Prelude.{◌≡◌, ◌+◌, ◌<◌, length, IfOk};
 ghost use Rattle.redo_board.specs.Shown.{first_of, end_of};
-ghost use Rattle.redo_board.specs.Kept.{IsBoardOf, SitsAt, IsFresh, IsFreshOf};
-ghost use Rattle.redo_tests_board.specs.Inside.Workers.{HasFrom};
+ghost use Rattle.redo_board.specs.Kept.{IsBoardOf, SitsAt, IsFresh, IsFreshOf, WorksAt};
 
-use redo_board::{Board, Seat};
+use redo_board::{Board, Seat, Worker};
 use redo_journal::Plan;
+use std::alloc::{AllocError, Global};
 
 pub(crate) fn split(board: &Board, _plan: &Plan, seat: Seat, middle: usize) -> (Seat, Seat)
     requires board { IsBoardOf _plan.now board.now × SitsAt _plan.now board.now seat }
@@ -18,21 +18,19 @@ pub(crate) fn split(board: &Board, _plan: &Plan, seat: Seat, middle: usize) -> (
     seat.split(board, middle)
 }
 
-#[tactic(auto, using(crate::proofs::SessionWorkers::met_from))]
-pub(crate) fn meet(board: &Board, _plan: &Plan, one: Seat, other: Seat) -> Seat
-    requires board { IsBoardOf _plan.now board.now }
-    requires one { SitsAt _plan.now board.now one }
-    requires other { SitsAt _plan.now board.now other }
-    ensures { (i j n : ℕ) → HasFrom _plan.now board.now i j one
-        → HasFrom _plan.now board.now j n other → HasFrom _plan.now board.now i n result }
+pub(crate) fn worker_of<'a>(
+    alloc: Global,
+    board: &'a Board,
+    plan: &Plan,
+    seat: Seat,
+) -> Result<Worker<'a>, AllocError>
+    requires board { IsBoardOf plan.now board.now }
+    requires fresh { IsFresh seat × (end_of seat ≡ first_of seat + 1) }
+    requires sits { SitsAt plan.now board.now seat × (first_of seat < length plan.now.scripts) }
+    ensures { IfOk result (WorksAt plan.now board.now) }
 {
-    one.meet(other, board)
-}
-
-#[tactic(auto, using(crate::proofs::SessionWorkers::for_all))]
-pub(crate) fn close(board: Board, _plan: &Plan, seat: Seat) -> usize
-    requires board { IsBoardOf _plan.now board }
-    requires seat { HasFrom _plan.now board 0 (length _plan.now.scripts) seat }
-{
-    board.close(seat) as usize
+    match Worker::new(alloc, board, plan, seat) {
+        Ok(worker) => Ok(worker),
+        Err(_) => Err(AllocError),
+    }
 }

@@ -10,28 +10,6 @@ pub(crate) const COMMON_PATH: &str =
     "file a.c 10\nlock a.o\nstart a.o\nifchange a.o a.c\ndone a.o 20\n\
     unlock a.o\nood\ntargets\nsources\n";
 
-/// Its history.
-pub(crate) const COMMON_PATH_HISTORY: &str = "history 9\n\
-    1 file a.c 10 => ok\n\
-    1 lock a.o => granted 1\n\
-    1 start a.o => ok\n\
-    1 ifchange a.o a.c => ok\n\
-    1 done a.o 20 => ok\n\
-    1 unlock a.o => ok\n\
-    1 ood => ood\n\
-    1 targets => targets a.o\n\
-    1 sources => sources a.c\n";
-
-/// One session, which ends during a build.
-pub(crate) const BROKEN_OFF: &str = "lock T\nstart T\n";
-
-/// Its history.
-pub(crate) const BROKEN_OFF_HISTORY: &str = "history 4\n\
-    1 lock T => granted 1\n\
-    1 start T => ok\n\
-    1 failed T => ok\n\
-    1 unlock T => ok\n";
-
 /// The first session builds a target and then asks `ood`. The second one's `file` comes between
 /// that command's first try and its reply: the second session waits until the first is ready at the
 /// fifth row, and the first waits there until the `file` is done.

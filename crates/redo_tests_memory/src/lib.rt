@@ -2,9 +2,9 @@
 #![tactic(auto)]
 
 #[cfg(test)]
-mod copies;
+mod calls;
 #[cfg(test)]
-mod databases;
+mod copies;
 #[cfg(test)]
 mod devices;
 #[cfg(test)]
@@ -12,16 +12,4 @@ mod failing;
 #[cfg(test)]
 mod histories;
 #[cfg(test)]
-mod lines;
-#[cfg(test)]
-mod names;
-#[cfg(test)]
-mod reading;
-#[cfg(test)]
-mod runs;
-#[cfg(test)]
-mod stores;
-#[cfg(test)]
 mod told;
-#[cfg(test)]
-mod wholes;

@@ -1,15 +1,7 @@
-//! Tests of conversations, of logs, of dumps, and of databases that are made from parts.
+//! Tests of a conversation over a log in memory, and of dumps.
 #![tactic(auto)]
 
 #[cfg(test)]
 mod dumps;
 #[cfg(test)]
-mod loads;
-#[cfg(test)]
-mod log;
-#[cfg(test)]
-mod parts;
-#[cfg(test)]
 mod served;
-#[cfg(test)]
-mod talk;

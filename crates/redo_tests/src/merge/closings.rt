@@ -1,6 +1,6 @@
 //! Closing commands at a session's end, right and wrong. Names are numbered as they first appear.
+use crate::merge::lines::{Answer, Wanted};
 use crate::merge::merging::{Act, Case, Made, Want};
-use crate::merge::told::{Answer, Wanted};
 use Answer::{Busy, Granted, NotLocked, Okay};
 use Closing::{Failed, Unlock};
 use Want::{Journals, Merged, NoJournals, Unmerged};

@@ -1,6 +1,6 @@
 //! Scripts with guarded lines: each entry is of the next line that the reply before lets through.
+use crate::merge::lines::{Answer, Wanted};
 use crate::merge::merging::{Act, Case, FIRST, Want};
-use crate::merge::told::{Answer, Wanted};
 use Want::{Journals, Merged, NoJournals};
 use redo_journal::Place;
 use redo_terms::Kind;

@@ -1,7 +1,7 @@
 //! Journals by hand: whether they are journals of their scripts, and their joint order.
 use crate::merge::closings::CLOSINGS;
 use crate::merge::guarded::GUARDED;
-use crate::merge::told::{Answer, Told, Wanted, are_wanted, entry_of};
+use crate::merge::lines::{Answer, Wanted, are_wanted, reply_of};
 use redo_journal::{Closing, Entry, Journal, Place, Plan, are_journals};
 use redo_merge::merge;
 use redo_terms::{Kind, Line};
@@ -26,14 +26,16 @@ pub(crate) enum Want {
     Merged(&'static [Wanted]),
 }
 
-/// Session files, what each session did, and the ways in which the session `goes_on` may go on,
-/// each with what is expected of the journals.
+/// How a session goes on, and what is expected of the journals then.
+pub(crate) type Way = (&'static [Made], Want);
+
+/// Session files, what each session did, and the ways in which the session `goes_on` may go on.
 #[derive(Clone, Copy)]
 pub(crate) struct Case {
     pub(crate) files: &'static [&'static str],
     pub(crate) made: &'static [&'static [Made]],
     pub(crate) goes_on: u8,
-    pub(crate) ways: &'static [(&'static [Made], Want)],
+    pub(crate) ways: &'static [Way],
 }
 
 /// One session locks and unlocks.
@@ -66,30 +68,43 @@ const MERGING: Case = Case {
     ],
 };
 
+fn entry_of(made: Made) -> Entry {
+    let (number, (closing, answer, place)) = made;
+    Entry {
+        number,
+        closing,
+        reply: reply_of(answer),
+        place,
+    }
+}
+
 fn push_all(entries: &mut Vec<Entry>, made: &[Made]) -> Result<(), AllocError> {
     for one in made {
-        let (closing, answer, place) = one.1;
-        let told = Told { answer, place };
-        entries.push(entry_of(one.0, closing, told))?;
+        entries.push(entry_of(*one))?;
     }
     Ok(())
 }
 
-/// The journal of a session that did `made`, and then `more`.
-fn journal_of(
-    alloc: Global,
-    session: u8,
-    made: &[Made],
-    more: &[Made],
-) -> Result<Journal, AllocError> {
+/// The entries of a session that did `made`, and then `more`.
+fn entries_of(alloc: Global, made: &[Made], more: &[Made]) -> Result<Vec<Entry>, AllocError> {
     let mut entries = Vec::new(alloc);
     push_all(&mut entries, made)?;
     push_all(&mut entries, more)?;
-    Ok(Journal {
+    Ok(entries)
+}
+
+/// Adds the journal of the session with this number.
+fn push_journal(
+    journals: &mut Vec<Journal>,
+    session: u8,
+    entries: Vec<Entry>,
+) -> Result<(), AllocError> {
+    journals.push(Journal {
         session,
         entries,
         tries: 0,
-    })
+    })?;
+    Ok(())
 }
 
 /// The journals of the case, if its session `goes_on` then did `more`.
@@ -98,7 +113,7 @@ fn journals_of(alloc: Global, case: &Case, more: &[Made]) -> Result<Vec<Journal>
     let mut session: u8 = 0;
     for made in case.made {
         let rest = if session == case.goes_on { more } else { &[] };
-        journals.push(journal_of(alloc, session, made, rest)?)?;
+        push_journal(&mut journals, session, entries_of(alloc, made, rest)?)?;
         session = session.wrapping_add(1);
     }
     Ok(journals)
@@ -125,43 +140,33 @@ fn are(alloc: Global, plan: &Plan, journals: &[Journal], want: Want) -> Result<b
     }
 }
 
-/// The plan of these files. If a request for memory is refused, a second try is made.
-fn plan_again(rt: &impl Abort, alloc: Global, files: &[&str]) -> Result<Plan, AllocError> {
-    let plan = match planned(alloc, files) {
-        Ok(plan) => plan,
-        Err(AllocError) => planned(alloc, files)?,
-    };
-    Ok(plan.expect(rt, "a plan"))
+/// Whether the journals of the plan are as expected, if its session goes on in this way.
+fn is_way(alloc: Global, plan: &Plan, case: &Case, way: &Way) -> Result<bool, AllocError> {
+    let journals = journals_of(alloc, case, way.0)?;
+    are(alloc, plan, &journals, way.1)
 }
 
-/// The journals of the case, with a second try.
-fn journals_again(alloc: Global, case: &Case, more: &[Made]) -> Result<Vec<Journal>, AllocError> {
-    match journals_of(alloc, case, more) {
-        Ok(journals) => Ok(journals),
-        Err(AllocError) => journals_of(alloc, case, more),
+fn is_case(alloc: Global, case: &Case, way: &Way) -> Result<bool, AllocError> {
+    match planned(alloc, case.files)? {
+        Some(plan) => is_way(alloc, &plan, case, way),
+        None => Ok(false),
     }
 }
 
-/// Whether the journals are as expected, with a second try.
-fn are_again(
-    alloc: Global,
-    plan: &Plan,
-    journals: &[Journal],
-    want: Want,
-) -> Result<bool, AllocError> {
-    match are(alloc, plan, journals, want) {
+/// The same. If a request for memory is refused, a second try is made.
+fn is_case_again(alloc: Global, case: &Case, way: &Way) -> Result<bool, AllocError> {
+    match is_case(alloc, case, way) {
         Ok(is) => Ok(is),
-        Err(AllocError) => are(alloc, plan, journals, want),
+        Err(AllocError) => is_case(alloc, case, way),
     }
 }
 
 /// Asserts that the journals are as expected in each way.
-fn check_ways(rt: &impl Abort, alloc: Global, plan: &Plan, case: &Case) -> Result<(), AllocError> {
-    for way in case.ways {
-        let journals = journals_again(alloc, case, way.0)?;
+fn check_case(rt: &impl Abort, alloc: Global, case: &Case) -> Result<(), AllocError> {
+    for at in 0..case.ways.len() {
         assert!(rt;
-            are_again(alloc, plan, &journals, way.1)?,
-            "{:?}",
+            is_case_again(alloc, case, &case.ways[at])?,
+            "{:?} {at}",
             case.files
         );
     }
@@ -170,43 +175,25 @@ fn check_ways(rt: &impl Abort, alloc: Global, plan: &Plan, case: &Case) -> Resul
 
 fn check_cases(rt: &impl Abort, alloc: Global, cases: &[Case]) -> Result<(), AllocError> {
     for case in cases {
-        let plan = plan_again(rt, alloc, case.files)?;
-        check_ways(rt, alloc, &plan, case)?;
+        check_case(rt, alloc, case)?;
     }
     Ok(())
 }
 
 /// After its lines a session closes the least target that it holds, and does nothing else.
 #[test]
-fn closing_and_guarded(rt: HostRuntime) -> Result<(), AllocError> {
-    check_cases(&rt, rt.alloc(), CLOSINGS)?;
-    check_cases(&rt, rt.alloc(), &[GUARDED])
+fn closing(rt: HostRuntime) -> Result<(), AllocError> {
+    check_cases(&rt, rt.alloc(), CLOSINGS)
+}
+
+#[test]
+fn guarded(rt: HostRuntime) -> Result<(), AllocError> {
+    check_case(&rt, rt.alloc(), &GUARDED)
 }
 
 /// Passes also if any one request for memory is refused: one of these calls fails then, and its
 /// second try succeeds.
 #[test]
 fn refused_memory(rt: HostRuntime) -> Result<(), AllocError> {
-    check_cases(&rt, rt.alloc(), &[MERGING])
-}
-
-/// Whether these are journals of the plan if the second session's journal has this number.
-fn is_of_second(alloc: Global, plan: &Plan, session: u8) -> Result<bool, AllocError> {
-    let mut journals = Vec::new(alloc);
-    journals.push(journal_of(alloc, 0, &[], &[])?)?;
-    journals.push(journal_of(alloc, session, FIRST, &[])?)?;
-    are_journals(alloc, plan, &journals)
-}
-
-/// The journal of a session that did something has that session's number.
-#[test]
-fn journal_of_another(rt: HostRuntime) -> Result<(), AllocError> {
-    let plan = plan_again(&rt, rt.alloc(), &["ood\n", "lock t\nunlock t\n"])?;
-    for (session, want) in [(0, false), (1, true), (2, false)] {
-        assert!(rt;
-            is_of_second(rt.alloc(), &plan, session)? == want,
-            "{session}"
-        );
-    }
-    Ok(())
+    check_case(&rt, rt.alloc(), &MERGING)
 }

@@ -15,7 +15,7 @@ loop-session-preserved c =
     let cut = c.split-one.ensures in
     record {
       workers = All-same (WorksAt p b) c.push.new.self.items (ws ++ w ∷ []) items
-          (All-push (WorksAt p b) ws w i.workers c.in_ok-worker_of.ensures.works);
+          (All-push (WorksAt p b) ws w i.workers c.in_ok-worker_of.ensures);
       sits = cut.right;
       fresh = subst (λ n. IsFreshOf (c.loop-session.session + 1) n c.split-one.result.1)
           i.fresh.end cut.from;
@@ -30,4 +30,4 @@ returns c =
     let items : c.push-2.new.self.items ≡ ws ++ w ∷ [] = search rules in
     All-same (WorksAt p b) c.push-2.new.self.items (ws ++ w ∷ []) items
     (All-push (WorksAt p b) ws w c.loop-session.invariant.workers
-    c.in_ok-worker_of-2.ensures.works)
+    c.in_ok-worker_of-2.ensures)
