@@ -1,22 +1,26 @@
 """What a power loss leaves on a disk of the files that a program wrote, by what it synced.
 
-Bytes and lengths of a file are on the disk once the file is synced, and its name once its folder
-is. Of all else any part may be lost."""
+Bytes and lengths of a file are on the disk once the file is synced, whatever it is called. That a
+name was given, moved or removed is on the disk once its folder is synced; a file system does each
+of these wholly or not at all. Of all else any part may be lost."""
 from __future__ import annotations
 
 import itertools
 import random
 from collections.abc import Iterable, Iterator, Mapping
-from dataclasses import dataclass, replace
+from dataclasses import dataclass, field, replace
 from pathlib import Path
 from typing import NamedTuple
 
 # of so many changes, or fewer, all subsets are tried
 MOST_SUBSETS = 6
+# what the system puts behind the name that a file had, if it has none any more
+DELETED = " (deleted)"
 
 
 class Event(NamedTuple):
-    """What a program did with a file: `create`, `write`, `cut` or `sync`; or `out`."""
+    """What a program did with a file: `create`, `write`, `cut`, `sync`, `unlink`, or `rename`,
+    whose data are the new name; or `out`."""
 
     kind: str
     name: str
@@ -24,11 +28,21 @@ class Event(NamedTuple):
     data: bytes = b""
 
 
-class Enter(NamedTuple):
-    """The name of a new file comes into its folder."""
+class Naming(NamedTuple):
+    """A file gets its first name, another one, or none. A file that had the new name has none
+    then."""
 
-    def do(self, text: bytearray) -> None:
-        """No byte is changed."""
+    old: str | None
+    new: str | None
+
+    def is_in(self, folder: str) -> bool:
+        return Path(self.new or self.old or "").parent == Path(folder)
+
+    def do(self, names: dict[str, int], file: int) -> None:
+        if self.old is not None and names.get(self.old) == file:
+            del names[self.old]
+        if self.new is not None:
+            names[self.new] = file
 
 
 class Grow(NamedTuple):
@@ -61,88 +75,128 @@ class Write(NamedTuple):
         text[self.place:self.place + len(self.data)] = self.data
 
 
-Change = Enter | Grow | Cut | Write
+Change = Naming | Grow | Cut | Write
 
 
 class Step(NamedTuple):
-    """A change of the file with this name."""
+    """A change of the file with this number, or of its name."""
 
-    name: str
+    file: int
     change: Change
+
+
+def is_in(step: Step, folder: str) -> bool:
+    """Whether this is on the disk once the folder is synced."""
+    return isinstance(step.change, Naming) and step.change.is_in(folder)
 
 
 @dataclass(frozen=True)
 class Disk:
-    """What is on the disk of each file, which files have their names there, and the changes of
-    which it isn't known, in their order."""
+    """What is on the disk of each file, the names that files have there, and the changes of which
+    it isn't known, in their order. Files are counted from 0."""
 
-    kept: Mapping[str, bytes]
-    named: frozenset[str]
+    kept: tuple[bytes, ...]
+    named: Mapping[str, int]
     pending: tuple[Step, ...] = ()
+    # the names by which the system calls files that have lost theirs
+    deleted: Mapping[str, int] = field(default_factory=dict)
+
+    def names(self, steps: Iterable[Step]) -> dict[str, int]:
+        """The files that have names, if of the changes these are kept."""
+        names = dict(self.named)
+        for file, change in steps:
+            if isinstance(change, Naming):
+                change.do(names, file)
+        return names
 
     def left(self, steps: Iterable[Step]) -> dict[str, bytes]:
         """The files, if of the changes these are kept."""
-        texts = {name: bytearray(text) for name, text in self.kept.items()}
-        named = set(self.named)
-        for name, change in steps:
-            change.do(texts[name])
-            named |= {name} if isinstance(change, Enter) else set()
-        return {name: bytes(text) for name, text in texts.items() if name in named}
+        steps = list(steps)
+        texts = [bytearray(text) for text in self.kept]
+        for file, change in steps:
+            if not isinstance(change, Naming):
+                change.do(texts[file])
+        return {name: bytes(texts[file]) for name, file in self.names(steps).items()}
 
     def now(self) -> dict[str, bytes]:
         """The files as all programs see them."""
         return self.left(self.pending)
 
+    def file(self, name: str) -> int | None:
+        """The file that the system calls so."""
+        return {**self.deleted, **self.names(self.pending)}.get(name)
+
     def after(self, event: Event) -> Disk:
         """The disk after one more event."""
-        match event:
-            case Event("create", name):
-                return replace(self, kept={**self.kept, name: b""}).plus(Step(name, Enter()))
-            case Event("write", name, place, data):
-                return self.plus(Step(name, Write(place, data)))
-            case Event("cut", name, length):
-                return self.plus(Step(name, Cut(length)))
-            case Event("sync", name):
-                return self.synced(name) if name in self.kept else self.synced_folder(name)
-        return self
+        file = self.file(event.name)
+        match event.kind:
+            case "out":
+                return self
+            case "create":
+                made = replace(self, kept=(*self.kept, b""))
+                return made.plus(len(self.kept), Naming(None, event.name))
+            case "sync" if file is None:
+                return self.synced_folder(event.name)
+        if file is None:
+            raise ValueError(f"no such file: {event}")
+        match event.kind:
+            case "write":
+                return self.plus(file, Write(event.place, event.data))
+            case "cut":
+                return self.plus(file, Cut(event.place))
+            case "sync":
+                return self.synced(file)
+            case "rename":
+                name = event.data.decode()
+                return self.without(name).plus(file, Naming(event.name, name))
+            case "unlink":
+                return self.without(event.name).plus(file, Naming(event.name, None))
+        raise ValueError(f"no such kind: {event}")
 
-    def plus(self, step: Step) -> Disk:
-        return replace(self, pending=(*self.pending, step))
+    def plus(self, file: int, change: Change) -> Disk:
+        return replace(self, pending=(*self.pending, Step(file, change)))
 
-    def synced(self, name: str) -> Disk:
+    def without(self, name: str) -> Disk:
+        """The disk once the file of this name, if there is one, is called otherwise."""
+        file = self.file(name)
+        if file is None:
+            return self
+        return replace(self, deleted={**self.deleted, name + DELETED: file})
+
+    def synced(self, file: int) -> Disk:
         """The disk after a sync of this file, which leaves its name in the folder as it is."""
-        text = bytearray(self.kept[name])
+        text = bytearray(self.kept[file])
         rest = []
         for step in self.pending:
-            if step.name != name or isinstance(step.change, Enter):
+            if step.file != file or isinstance(step.change, Naming):
                 rest.append(step)
             else:
                 step.change.do(text)
-        return replace(self, kept={**self.kept, name: bytes(text)}, pending=tuple(rest))
+        kept = (*self.kept[:file], bytes(text), *self.kept[file + 1:])
+        return replace(self, kept=kept, pending=tuple(rest))
 
     def synced_folder(self, folder: str) -> Disk:
         """The disk after a sync of this folder, which leaves the bytes of its files as they are."""
-        entered = [step for step in self.pending
-                   if isinstance(step.change, Enter) and Path(step.name).parent == Path(folder)]
-        rest = tuple(step for step in self.pending if step not in entered)
-        return replace(self, named=self.named | {step.name for step in entered}, pending=rest)
+        named = self.names(step for step in self.pending if is_in(step, folder))
+        rest = tuple(step for step in self.pending if not is_in(step, folder))
+        return replace(self, named=named, pending=rest)
 
 
 def disk_of(files: Mapping[str, bytes]) -> Disk:
     """A disk that has these files for sure."""
-    return Disk(dict(files), frozenset(files))
+    return Disk(tuple(files.values()), {name: file for file, name in enumerate(files)})
 
 
 def torn(step: Step, choose: random.Random) -> list[list[Step]]:
     """A write of which a part is lost: its end; its end, but the length is kept; or something
     within it, which reads as zeros. No other change can be torn."""
-    name, change = step
+    file, change = step
     if not isinstance(change, Write):
         return []
     first, second = sorted(choose.randint(0, len(change.data)) for _ in range(2))
-    begin = Step(name, Write(change.place, change.data[:first]))
-    end = Step(name, Write(change.place + second, change.data[second:]))
-    length = Step(name, Grow(change.place + len(change.data)))
+    begin = Step(file, Write(change.place, change.data[:first]))
+    end = Step(file, Write(change.place + second, change.data[second:]))
+    length = Step(file, Grow(change.place + len(change.data)))
     return [[begin], [begin, length], [length, begin, end]]
 
 

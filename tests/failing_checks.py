@@ -1,5 +1,6 @@
 """What is checked of a run of redodb-live in which a call failed, by docs/RULES.md."""
 import errno
+import signal
 from dataclasses import dataclass
 from typing import Iterable
 
@@ -87,18 +88,24 @@ def cause_of(scenario: Scenario, failed: Call, earlier: list[Call], log: str) ->
 
 
 class Judged:
-    """A run in which a call failed, and what is right of it."""
+    """A run in which a call failed, or the program was killed at one, and what is right of it."""
 
-    def __init__(self, scenario: Scenario, wanted: Wanted, tried: Tried, log: str) -> None:
+    def __init__(
+        self, scenario: Scenario, wanted: Wanted, tried: Tried, log: str, is_killed: bool
+    ) -> None:
         self.scenario, self.wanted, self.tried, self.log = scenario, wanted, tried, log
+        self.is_killed = is_killed
         self.failed = tried.failed()
-        self.cause: str | None = None
-        if self.failed:
+        self.cause: str | None = "killed" if is_killed else None
+        if self.failed and not is_killed:
             earlier = tried.calls[:tried.calls.index(self.failed)]
             self.cause = cause_of(scenario, self.failed, earlier, log)
 
     def ended(self) -> tuple[int, str]:
         """The status and the lines on standard error that it has to have."""
+        if self.is_killed:
+            is_told = has_passed(self.tried.calls, "write", "err")
+            return -signal.SIGKILL, self.scenario.report(self.log) if is_told else ""
         is_told = self.failed is None or self.failed.file != "err"
         is_cut = self.scenario.is_damaged() and has_passed(self.tried.calls, "cut", "log")
         report = self.scenario.report(self.log) if is_cut and is_told else ""

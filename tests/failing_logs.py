@@ -3,6 +3,7 @@ log then, by tests/reference.py."""
 from itertools import accumulate
 from typing import NamedTuple
 
+import dumps
 from reference import Reference
 from talks import HEADER, greeting, is_change
 
@@ -59,22 +60,31 @@ LOGS = [
 ]
 
 
+def lines_in(log: str) -> int:
+    """How many lines a log has after its header or its dump."""
+    text = log.encode("latin-1")
+    if text.startswith(dumps.HEADER):
+        text = dumps.read_dump(text.removeprefix(dumps.HEADER))[1]
+    return text.removeprefix(HEADER.encode()).count(b"\n")
+
+
 class Wanted:
     """What is answered and logged, step by step, after the lines that were kept of a log. The
     first step is the start, and each round of lines is one more."""
 
-    def __init__(self, kept: str, rounds: list[str]) -> None:
+    def __init__(self, kept: str, rounds: list[str], is_compacting: bool = False) -> None:
         self.reference = Reference()
-        self.files: dict[str, str] = {}
-        lines = kept.splitlines(keepends=True)[1:]
-        for line in lines:
-            session, _, command = line.partition(" => ")[0].partition(" ")
-            if self.do(int(session), command) != line:
-                raise ValueError(line)
-            is_change(self.files, line)
-        holders = {cell.holder for cell in self.reference.cells.values() if cell.holder}
+        begin = kept.encode("latin-1")
+        if begin:
+            self.reference = dumps.left_by(begin)
+        cells = self.reference.cells.items()
+        self.files = {name: cell.file for name, cell in cells if cell.file is not None}
+        holders = {cell.holder for _, cell in cells if cell.holder}
         closed = "".join(self.closing(session) for session in sorted(holders))
-        self.answers, self.logs = [greeting(len(lines))], [(kept or HEADER) + closed]
+        log = (kept or HEADER) + closed
+        if is_compacting:
+            log = (dumps.HEADER + dumps.dump_of(self.reference)).decode("ascii")
+        self.answers, self.logs = [greeting(lines_in(kept))], [log]
         for lines_asked in rounds:
             self.ask(lines_asked)
         self.said, self.log = "".join(self.answers), "".join(self.logs)

@@ -15,10 +15,10 @@ BAD_SESSION = [
 # the rest of a line that names its session, by its fault
 FAULTS: dict[str, list[str]] = {
     "line-too-long": ["a" * 8193, "#" * 8193, " " * 8193, "\r" * 8193, "stamp t " + "a" * 8186, "end" + " " * 8190,
-                      "\xff" * 100_000],
+                      "\xff" * 100_000, "gone " + "a" * 8188, "gone " + "a" * 199_995],
     "bad-byte": ["lock a\r", "\r", "lock a\x7f", "lock\ta", "lock \xc3\xa9", "build\tt", "end\r", "\x00", "lock a\x1f",
                  "build \x80", "? lock a\r"],
-    "unknown-command": ["", " ", "build a", "Lock a", " lock a", "locks a", "end ", "end x", " end", "END", "ends",
+    "unknown-command": ["", " ", "build a", "Lock a", " lock a", "locks a", "end ", "end x", " end", "END", "ends", "now", "end now",
                         "? lock a", "?", "# lock a", "history 0", "file: a", "2 lock a", "- a", "=> a", "a" * 8192],
     "wrong-words": ["file", "file a", "file a 1 2", "gone", "gone a b", "lock", "lock a b", "lock a ", "lock  a",
                     "unlock", "unlock a b", "start", "start a b", "ifchange", "ifchange a", "ifcreate", "ifcreate a",
@@ -29,7 +29,7 @@ FAULTS: dict[str, list[str]] = {
     "bad-name": ["lock -", "lock #a", "lock =>", "lock ", "gone -", "file - 1", "file #a -", "unlock =>", "start -",
                  "ifchange - a", "ifchange a -", "ifchange a b ", "ifchange a  b", "ifcreate a #b", "ifcreate =>  ",
                  "always -", "stamp - 6", "stamp #a 61", "done - =>", "failed -", "lock " + "a" * 256,
-                 "ifchange t" + " a" * 63 + " -"],
+                 "gone " + "a" * 8187, "ifchange t" + " a" * 63 + " -"],
     "bad-stamp": ["file a -", "file a =>", "file a ", "file a " + "1" * 65, "done a =>", "done a ",
                   "done a " + "1" * 65],
     "bad-hex": ["stamp a 6", "stamp a 6g", "stamp a ", "stamp a 616", "stamp a =>", "stamp a --", "stamp a g0"],

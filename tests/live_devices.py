@@ -4,6 +4,7 @@ import resource
 import subprocess
 from pathlib import Path
 
+import dumps
 from processes import Ended
 from talks import HEADER, TOP, Checks, Talk, ended, fault, greeting
 
@@ -11,6 +12,9 @@ USAGE = [
     ["--log"], ["--sync"], ["--salvage"], ["--log", "J", "--log", "J"], ["--log", "J", "word"], ["word"], ["-"], ["--"],
     ["--logs", "J"], ["--log", "J", "--sync", "--sync"], ["--sync", "--salvage"], ["-h"], ["-V"], ["help"],
     ["--log", "J", "--journal"], ["--log", os.fsdecode(b"\xff")],
+    ["--compact"], ["--whole"], ["--compact", "--whole"], ["--salvage", "--compact"], ["--sync", "--whole"],
+    ["--log", "J", "--compact", "--whole"], ["--whole", "--log", "J", "--compact", "--sync", "--salvage"],
+    ["--log", "J", "--compact", "--compact"], ["--log", "J", "--whole", "--whole"],
 ]
 
 
@@ -25,10 +29,19 @@ class Devices:
             got = ended(self.program, "1 ood\n", *words, cwd=self.folder)
             self.checks.check(f"usage: {words}", got, fault("usage"))
         self.checks.check("usage: no log comes of it", (self.folder / "J").exists(), False)
-        for words in (["--sync", "--log", "J"], ["--salvage", "--log", "J", "--sync"]):
-            got = ended(self.program, "1 ood\n", *words, cwd=self.folder)
-            self.checks.check(f"words: {words}", got, (0, f"{greeting(0)}1 ood => ood\n", ""))
-        self.checks.check("words: the log", (self.folder / "J").read_text(), HEADER)
+        for words in (["--sync", "--log", "J"], ["--salvage", "--log", "J", "--sync"], ["--log", "J", "--whole"],
+                      ["--whole", "--sync", "--log", "J", "--salvage"]):
+            self.takes(words, HEADER)
+        nothing = dumps.HEADER + dumps.dump_of(dumps.left_by(HEADER.encode()))
+        for words in (["--log", "J", "--compact"], ["--compact", "--salvage", "--log", "J", "--sync"]):
+            self.takes(words, nothing.decode())
+        self.takes(["--log", "J", "--whole"], nothing.decode())
+
+    def takes(self, words: list[str], log: str) -> None:
+        """The program starts by these words on a log of which nothing is known, and leaves it so."""
+        got = ended(self.program, "1 ood\n", *words, cwd=self.folder)
+        self.checks.check(f"words: {words}", got, (0, f"{greeting(0)}1 ood => ood\n", ""))
+        self.checks.check(f"words: {words}: the log", (self.folder / "J").read_text(), log)
 
     def wrapper(self) -> None:
         """./redodb-live answers these words at once, also if nothing is proved."""
@@ -36,7 +49,7 @@ class Devices:
         version = greeting(0).partition(" restored")[0]
         self.checks.check("--version", ended(wrapper, "", "--version"), (0, f"{version}\n", ""))
         status, said, errors = ended(wrapper, "", "--help")
-        usage = "redodb-live [--log FILE [--sync] [--salvage]]"
+        usage = "redodb-live [--log FILE [--sync] [--salvage] [--compact | --whole]]"
         self.checks.check("--help", (status, usage in said, errors), (0, True, ""))
         bare = self.folder / "redodb-live"
         bare.write_bytes(wrapper.read_bytes())

@@ -91,7 +91,7 @@ class Files:
         large, copy = self.folder / "large", self.folder / "large.damaged"
         for name, text, size in (
             ("zeros", "", 3 << 30),
-            ("nearly a log", "redodb-log 2\n", 3 << 30),
+            ("nearly a log", "redodb-log 3\n", 3 << 30),
         ):
             large.write_text(text)
             os.truncate(large, size)

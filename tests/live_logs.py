@@ -43,9 +43,33 @@ ASKED = "".join(line.partition(" => ")[0] + "\n" for line in LINES)
 # a log whose last session is in the midst of a build
 HELD = HEADER + "1 file a 1 => ok\n2 lock t => granted 1\n2 start t => ok\n"
 CLOSED = "2 failed t => ok\n2 unlock t => ok\n"
+# one session builds a target, another locks a name
+BUILT = HEADER + """\
+1 file a.c 10 => ok
+1 lock a.o => granted 1
+1 start a.o => ok
+2 lock b => granted 1
+1 ifchange a.o z.h a.c => stale z.h
+1 done a.o 20 => ok
+"""
+# sessions whose numbers have up to five digits
+NUMBERED = HEADER + """\
+1 file a.c 10 => ok
+64 lock a => granted 1
+65 lock b => granted 1
+255 lock c => granted 1
+256 lock d => granted 1
+65535 lock e => granted 1
+65535 unlock e => ok
+"""
+# a log that begins with a dump: no name is known
+DUMPED = "redodb-log 2\nstate 0 0 49d53525733ab592fe7182d48f3e73401a9763ca\n"
 # lines in the place of the second, none of which is the answer there
 OTHERS = {
     "another reply": "2 lock t => granted 2\n",
+    "another grant that is in use": "2 lock t => busy 1\n",
+    "a release of what is free": "2 unlock t => ok\n",
+    "content that is lacking": "2 stamp t => stamped\n",
     "a reply of another form": "2 lock t => ok\n",
     "no reply": "2 lock t\n",
     "an empty line": "\n",
@@ -55,6 +79,9 @@ OTHERS = {
     "two arrows": "2 lock t => granted 1 => ok\n",
     "no session": "lock t => granted 1\n",
     "a session of two digits": "02 lock t => granted 1\n",
+    "session 0": "0 lock t => granted 1\n",
+    "a space in front": " 2 lock t => granted 1\n",
+    "a word": "hello\n",
     "session 65,536": "65536 lock t => granted 1\n",
     "a session of six digits": "100002 lock t => granted 1\n",
     "a fault": "2 fault bad-name\n",
@@ -139,6 +166,15 @@ class Logs:
         closed = "".join(f"{s} unlock t{s} => ok\n" for s in range(1, 65))
         self.opens("64 sessions", HEADER + many, 64, HEADER + many + closed)
 
+    def worked(self) -> None:
+        """Logs that were worked out by hand. What comes after the last LF is left out."""
+        left = BUILT + "1 unlock a.o => ok\n2 unlock b => ok\n"
+        for rest in ("", "1", "1 unlock a.o => o", "1 unlock a.o => ok", "nothing"):
+            self.opens(f"a target that was built, and {rest!r}", BUILT + rest, 6, left)
+        self.opens("a header, and a part of a line", HEADER + "1 fi", 0, HEADER)
+        closed = "64 unlock a => ok\n65 unlock b => ok\n255 unlock c => ok\n256 unlock d => ok\n"
+        self.opens("numbers of five digits", NUMBERED, 7, NUMBERED + closed)
+
     def damage(self) -> None:
         first, second, third = HELD[len(HEADER):].splitlines(keepends=True)
         for name, other in OTHERS.items():
@@ -146,7 +182,10 @@ class Logs:
             self.salvages(f"{name}, with --salvage", HEADER + first + other + third, HEADER + first)
         self.differs("a line is lacking", HEADER + first + third, 3)
         self.differs("the header is lacking", first + second, 1)
-        self.differs("another header", "redodb-log 2\n" + first, 1)
+        self.differs("another header", "redodb-log 3\n" + first, 1)
+        self.differs("a space after the header", "redodb-log 1 \n", 1)
+        self.differs("another number without LF", "redodb-log 10", 1)
+        self.differs("an empty line alone", "\n", 1)
         self.differs("no log", "int main(void) { return 0; }\n", 1)
         self.differs("a word without LF", "precious", 1)
         self.differs("a history", "history 1\n1 ood => ood\n", 1)
@@ -156,7 +195,7 @@ class Logs:
         block = HELD[:30] + "\0" * 4096 + HELD[34:] + "1 gone b => ok\n"
         self.differs("a block of zeros", block, 3)
         self.salvages("a block of zeros, with --salvage", block, HEADER + first)
-        self.salvages("another header, with --salvage", "redodb-log 2\n" + first, "")
+        self.salvages("another header, with --salvage", "redodb-log 3\n" + first, "")
         self.salvages("the last line differs, with --salvage", HELD + "1 gone b => no\n", HELD)
 
     def copies(self) -> None:
@@ -184,6 +223,9 @@ class Logs:
             ("", (2, "", f"history: {self.log}: no log\n")),
             (HEADER[:-1], (2, "", f"history: {self.log}: no log\n")),
             ("history 0\n", (2, "", f"history: {self.log}: no log\n")),
+            (DUMPED, (2, "", f"history: {self.log}: it begins with a state\n")),
+            (DUMPED + "1 file a 1 => ok\n", (2, "", f"history: {self.log}: it begins with a state\n")),
+            ("redodb-log 3\n", (2, "", f"history: {self.log}: no log\n")),
         ):
             self.log.write_text(text)
             self.checks.check(f"tools/history of {text!r}", ended(TOP / "tools/history", "", str(self.log)), wanted)
@@ -216,6 +258,7 @@ class Logs:
         self.histories()
         self.contents()
         self.restarts()
+        self.worked()
         self.damage()
         self.copies()
         self.places()

@@ -9,9 +9,10 @@ from pathlib import Path
 from typing import NamedTuple
 
 from databases import QUESTIONS
+from dumps import HEADER as DUMP_HEADER, dump_of, left_by
 from disks import Disk, Event, Step, disk_of, in_any_order, in_order
 from recordings import Recorder, bursts, random_lines
-from restarts import Image, Outcome, Restarts, count, lines_after_header, text_of, whole
+from restarts import Heads, Image, Outcome, Restarts, text_of, whole
 from talks import HEADER, Checks, changing_from, closing_of, greeting, shown
 
 # the answers that are no lines of a history
@@ -27,11 +28,15 @@ FEW, TIMES, LOSSES, SHARE = 2, 4, 3, 4
 
 class Start(NamedTuple):
     """A start of the program, and how it ends: by the end of its input, or by a loss, if there is
-    one of this kind; and whether nothing is open in the end."""
+    one of this kind; whether nothing is open in the end, and whether its log is compacted."""
 
     is_synced: bool
     loss: str = ""
     is_ended: bool = False
+    is_compacting: bool = False
+
+    def words(self) -> list[str]:
+        return ["--sync"] * self.is_synced + ["--compact"] * self.is_compacting
 
 
 class Moment(NamedTuple):
@@ -76,13 +81,16 @@ class Talked:
         self.checks, self.name = checks, name
         (folder / "images").mkdir(parents=True)
         self.recorder = Recorder(program, folder)
-        self.restarts = Restarts(program, folder / "images")
+        self.heads = Heads()
+        self.restarts = Restarts(program, folder / "images", self.heads)
         self.choose = random.Random(seed)
         self.number = self.choose.randrange(1000)
-        self.log, self.copy = (str(folder / name) for name in ("log", "log.damaged"))
+        self.log, self.copy, self.new = self.names = tuple(
+            str(folder / name) for name in ("log", "log.damaged", "log.new"))
         self.disk = disk_of({})
-        # what is to be on the disk, and the lines of the log at the start
+        # what is to be on the disk, and the lines of the log at the start; how many are restored
         self.promised = self.lines = ""
+        self.restored = 0
         # the log that a start with --salvage found since the last loss
         self.damaged: bytes | None = None
         # the kinds of losses that it went on with; and how many losses left how much
@@ -90,7 +98,7 @@ class Talked:
         self.tally: Counter[str] = Counter()
 
     def image(self, files: dict[str, bytes]) -> Image:
-        return Image(files.get(self.log), files.get(self.copy))
+        return Image(*map(files.get, self.names))
 
     def talk(self, starts: Iterable[Start]) -> None:
         for number, start in enumerate(starts, 1):
@@ -98,7 +106,7 @@ class Talked:
 
     def start(self, name: str, start: Start) -> None:
         """One start, and all losses within it."""
-        words = ["--log", self.log, *(["--sync"] if start.is_synced else []), *self.begun()]
+        words = ["--log", self.log, *start.words(), *self.begun()]
         lines = random_lines(self.choose, self.number, start.is_ended)
         recording = self.recorder.recorded(bursts(self.choose, lines, BURST), *words)
         moments = list(self.moments(name, recording.events, start.is_synced))
@@ -115,17 +123,17 @@ class Talked:
         """The word that a start needs, if the log is damaged. An older copy is moved away then."""
         image = self.image(self.disk.now())
         outcome = self.restarts.outcome(image)
-        self.lines = outcome.lines
+        self.lines, self.restored = outcome.lines, outcome.restored
         if outcome.refused is None or image.log is None:
             return []
         Path(self.copy).unlink(missing_ok=True)
         self.damaged = image.log
-        self.disk = disk_of({self.log: image.log})
+        self.disk = disk_of(self.found())
         return ["--salvage"]
 
     def found(self) -> dict[str, bytes]:
         """The files that are really there."""
-        files = (Path(self.log), Path(self.copy))
+        files = map(Path, self.names)
         return {str(file): file.read_bytes() for file in files if file.exists()}
 
     def lose(self, losses: list[Loss]) -> None:
@@ -138,7 +146,7 @@ class Talked:
             loss = self.choose.choice(losses)
             self.met |= {kind for kind in KINDS if loss.is_like(kind)}
             self.promised = loss.moment.promised
-            pairs = zip((self.log, self.copy), loss.image)
+            pairs = zip(self.names, loss.image)
             files = {file: text for file, text in pairs if text is not None}
         for file, text in files.items():
             Path(file).write_bytes(text)
@@ -148,7 +156,7 @@ class Talked:
         """The lines of the log, as the programs see it."""
         log = disk.now().get(self.log)
         is_as_before = self.damaged is not None and log == self.damaged
-        return self.lines if is_as_before else lines_after_header(text_of(log))
+        return self.lines if is_as_before else self.heads.lines(text_of(log))
 
     def moments(self, name: str, events: Iterable[Event], is_synced: bool) -> Iterator[Moment]:
         """The moment before these events, and that after each. What is answered is in the log."""
@@ -156,6 +164,8 @@ class Talked:
         yield Moment(is_synced, disk, promised, self.had(disk))
         for event in events:
             disk = disk.after(event)
+            if event.kind == "rename":
+                self.compacted(name, disk)
             had = self.had(disk)
             if event.kind == "out":
                 said += event.data.decode("latin-1")
@@ -163,12 +173,23 @@ class Talked:
                 promised = answered if is_synced else promised
                 self.checks.check(f"{name}: is in the log", had.startswith(answered), True)
             yield Moment(is_synced, disk, promised, had)
-        wanted = greeting(count(self.lines))
+        wanted = greeting(self.restored)
         self.checks.check(f"{name}: greeting", said.startswith(wanted), True)
+
+    def begun_with(self) -> str:
+        """The lines of the log, and those that close its sessions."""
+        return self.lines + closing_of(self.lines.splitlines(keepends=True))
+
+    def compacted(self, name: str, disk: Disk) -> None:
+        """A dump took the place of the log: that of what its lines say."""
+        begun = self.begun_with()
+        wanted = DUMP_HEADER + dump_of(left_by((HEADER + begun).encode()))
+        self.checks.check(f"{name}: the dump", disk.now().get(self.log), wanted)
+        self.heads.known[wanted.decode()] = begun
 
     def answered(self, said: str) -> str:
         """The lines of the log that these answers are a promise of."""
-        begun = self.lines + closing_of(self.lines.splitlines(keepends=True))
+        begun = self.begun_with()
         return begun + "".join(changing_from(begun.splitlines(keepends=True), told_lines(said)))
 
     def losses(self, name: str, moment: Moment) -> Iterator[Loss]:
@@ -196,11 +217,11 @@ class Talked:
 
     def check(self, name: str, loss: Loss, is_ordered: bool) -> None:
         """What is claimed of a loss holds."""
-        (_, _, promised, had), image, (lines, refused, faults) = loss
+        (_, _, promised, had), image, (lines, _, refused, faults) = loss
         broken = {
             "an answered line is lost": not lines.startswith(promised),
             "a line is restored that wasn't there": not had.startswith(lines),
-            "a right line is named": refused is not None and (HEADER + had).startswith(refused),
+            "a right line is named": refused is not None and self.heads.is_right(refused, had),
             "a lost end is named": is_ordered and refused is not None and image.log != self.damaged,
             "what was damaged is lost": self.damaged is not None and self.damaged not in image,
         }

@@ -11,17 +11,19 @@ DIFFERS = re.compile(r": line (\d+) differs\n$")
 
 
 class Image(NamedTuple):
-    """The log, and LOG.damaged, as far as they are there."""
+    """The log, LOG.damaged and LOG.new, as far as they are there."""
 
     log: bytes | None
     copy: bytes | None
+    new: bytes | None
 
 
 class Outcome(NamedTuple):
     """What a start makes of an image."""
 
-    # the lines that are restored, without the header
+    # the lines that are restored, those that led to a dump among them; and how many aren't
     lines: str
+    restored: int
     # the log up to the line that differs, if one does
     refused: str | None
     # what it does otherwise than docs/RULES.md says
@@ -38,29 +40,55 @@ def whole(text: str) -> str:
     return text[:text.rfind("\n") + 1]
 
 
-def lines_after_header(text: str) -> str:
-    """The whole lines of a log that isn't damaged."""
-    return whole(text).removeprefix(HEADER)
-
-
-def closed(lines: str) -> str:
-    """A log of these lines, and of those that close their sessions, if they are of a history."""
-    try:
-        return HEADER + lines + closing_of(lines.splitlines(keepends=True))
-    except (KeyError, ValueError):
-        return "no log"
-
-
 def count(lines: str) -> int:
     return lines.count("\n")
+
+
+def closing(lines: str) -> str | None:
+    """The lines that close the sessions after these, if these are of a history."""
+    try:
+        return closing_of(lines.splitlines(keepends=True))
+    except (KeyError, ValueError):
+        return None
+
+
+class Heads:
+    """What logs begin with, and the lines that led to it: none to a header, and to a dump those of
+    the log whose place it took."""
+
+    def __init__(self) -> None:
+        self.known = {HEADER: ""}
+
+    def cut(self, text: str) -> tuple[str, str]:
+        """The head of a log, if it has one, and the whole lines after it."""
+        head = next((head for head in self.known if text.startswith(head)), "")
+        return head, whole(text[len(head):]) if head else ""
+
+    def lines(self, text: str) -> str:
+        """All lines of which a log speaks."""
+        head, lines = self.cut(text)
+        return self.known.get(head, "") + lines
+
+    def is_right(self, text: str, had: str) -> bool:
+        """Whether a log that begins so speaks of the first of these lines."""
+        head, _ = self.cut(text)
+        is_begun = any(head.startswith(text) for head in self.known)
+        return is_begun or head != "" and had.startswith(self.known[head] + text[len(head):])
+
+    def closed(self, text: str) -> str:
+        """The log that a start makes of one that isn't damaged."""
+        head, lines = self.cut(text)
+        ends = closing(self.lines(text))
+        return "no log" if ends is None else (head or HEADER) + lines + ends
 
 
 class Restarts:
     """Starts a program on images, in a folder of its own; each image once."""
 
-    def __init__(self, program: Path, folder: Path) -> None:
-        self.program = Program(program)
-        self.log, self.copy = folder / "image", folder / "image.damaged"
+    def __init__(self, program: Path, folder: Path, heads: Heads) -> None:
+        self.program, self.heads = Program(program), heads
+        self.log = folder / "image"
+        self.copy, self.new = (folder / f"image.{ending}" for ending in ("damaged", "new"))
         self.known: dict[Image, Outcome] = {}
 
     def outcome(self, image: Image) -> Outcome:
@@ -68,16 +96,18 @@ class Restarts:
             self.known[image] = self.started(image)
         return self.known[image]
 
+    def files(self) -> tuple[Path, ...]:
+        return self.log, self.copy, self.new
+
     def put(self, image: Image) -> None:
-        for file, text in zip((self.log, self.copy), image):
+        for file, text in zip(self.files(), image):
             if text is None:
                 file.unlink(missing_ok=True)
             else:
                 file.write_bytes(text)
 
     def found(self) -> Image:
-        files = [file.read_bytes() if file.exists() else None for file in (self.log, self.copy)]
-        return Image(*files)
+        return Image(*(file.read_bytes() if file.exists() else None for file in self.files()))
 
     def ended(self, *words: str) -> Ended:
         return self.program.ended(b"", "--log", str(self.log), *words)
@@ -89,30 +119,33 @@ class Restarts:
         text = text_of(image.log)
         differs = DIFFERS.search(got[2])
         if not differs:
-            lines = lines_after_header(text)
-            wanted = (0, greeting(count(lines)), ""), Image(closed(lines).encode(), image.copy)
-            return Outcome(lines, None, self.other("a start", got, *wanted))
+            restored = count(self.heads.cut(text)[1])
+            left = image._replace(log=self.heads.closed(text).encode())
+            faults = self.other("a start", got, (0, greeting(restored), ""), left)
+            return Outcome(self.heads.lines(text), restored, None, faults)
         number = int(differs[1])
         told = text.splitlines(keepends=True)
-        lines = "".join(told[1:number - 1])
+        before = "".join(told[:number - 1])
         wanted = fault(f"{self.log}: line {number} differs"), image
-        faults = self.other("a start", got, *wanted) + self.salvaged(image, lines)
-        return Outcome(lines, "".join(told[:number]), faults)
+        faults = self.other("a start", got, *wanted) + self.salvaged(image, before)
+        restored = count(self.heads.cut(before)[1])
+        return Outcome(self.heads.lines(before), restored, "".join(told[:number]), faults)
 
-    def salvaged(self, image: Image, lines: str) -> tuple[str, ...]:
-        """What is wrong with a start with --salvage: it keeps these lines, and a copy. A file that
-        is no beginning of the log is never replaced; so it is moved away."""
+    def salvaged(self, image: Image, before: str) -> tuple[str, ...]:
+        """What is wrong with a start with --salvage: it keeps what comes before the line that
+        differs, and a copy. A file that is no beginning of the log is never replaced; so it is
+        moved away."""
         faults: tuple[str, ...] = ()
         if image.copy is not None and not (image.log or b"").startswith(image.copy):
             wanted = fault(f"{self.copy}: is there already"), image
             faults = self.other("a copy is there", self.ended("--salvage"), *wanted)
             self.copy.unlink()
-        kept = HEADER + lines if text_of(image.log).startswith(HEADER) else ""
-        gone = len(image.log or b"") - len(kept)
+        head, lines = self.heads.cut(before)
+        gone = len(image.log or b"") - len(head + lines)
         told = f"redodb-live: {self.log}: {count(lines)} lines kept, {gone} bytes cut off\n"
-        after = Image(closed(lines).encode(), image.log)
-        wanted = (0, greeting(count(lines)), told), after
-        return faults + self.other("--salvage", self.ended("--salvage"), *wanted)
+        left = Image(self.heads.closed(before).encode(), image.log, image.new)
+        got = self.ended("--salvage")
+        return faults + self.other("--salvage", got, (0, greeting(count(lines)), told), left)
 
     def other(self, name: str, got: Ended, wanted: Ended, files: Image) -> tuple[str, ...]:
         """What is otherwise than wanted, of what a start says and of the files after it."""

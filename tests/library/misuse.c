@@ -139,6 +139,21 @@ static void restoring(void) {
     EXPECT(redodb_close(&database) == REDODB_OK);
 }
 
+/* One session has built a target, another holds a lock: the database goes on from there. */
+static void going_on(void) {
+    static const char log[] = "redodb-log 1\n1 file a.c 10 => ok\n1 lock a.o => granted 1\n1 start a.o => ok\n"
+                              "2 lock b => granted 1\n1 ifchange a.o z.h a.c => stale z.h\n1 done a.o 20 => ok\n";
+    redodb *database = NULL;
+    redodb_restored restored;
+    EXPECT(redodb_restore(&database, log, sizeof log - 1, &restored) == REDODB_OK);
+    EXPECT(restored.lines == 6 && restored.bytes == 153);
+    EXPECT(told(database, "3 targets", "3 targets => targets a.o\n") == REDODB_OK);
+    EXPECT(told(database, "3 lock b", "3 lock b => busy 1\n") == REDODB_OK);
+    EXPECT(told(database, "2 unlock b", "2 unlock b => ok\n") == REDODB_OK);
+    EXPECT(told(database, "3 lock b", "3 lock b => granted 2\n") == REDODB_OK);
+    EXPECT(redodb_close(&database) == REDODB_OK);
+}
+
 int main(void) {
     redodb *database;
     EXPECT(redodb_abi() == REDODB_ABI);
@@ -153,6 +168,7 @@ int main(void) {
     two();
     reopened();
     restoring();
+    going_on();
     for (int status = -1; status <= REDODB_MISUSE + 1; status++) EXPECT(redodb_status_text(status)[0] != '\0');
     printf("%d held, %d failed\n", held, failed);
     return failed > 0;

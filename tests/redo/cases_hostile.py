@@ -232,13 +232,18 @@ def case_full_disk_of_the_database(tree: Tree) -> None:
     on_small_disk(tree, full_database)
 
 
-def on_small_disk(tree: Tree, case: Callable[[Tree], None]) -> None:
-    """Runs a case in whose tree the folder `disk` has two megabytes."""
+def case_full_disk_and_questions(tree: Tree) -> None:
+    """A server that starts then, after one that was killed too, answers questions."""
+    on_small_disk(tree, full_and_asked)
+
+
+def on_small_disk(tree: Tree, case: Callable[[Tree], None], megabytes: int = 2) -> None:
+    """Runs a case in whose tree the folder `disk` has so much room."""
     if os.getuid() != 0:
         raise Skipped("only root can mount a small disk")
     tree.path("disk").mkdir()
     mounted = subprocess.run(
-        ["mount", "-t", "tmpfs", "-o", "size=2m,mode=755", "tmpfs", tree.path("disk")],
+        ["mount", "-t", "tmpfs", "-o", f"size={megabytes}m,mode=755", "tmpfs", tree.path("disk")],
         capture_output=True,
         check=False,
     )
@@ -276,6 +281,17 @@ def full_database(tree: Tree) -> None:
     tree.redo("x", folder="disk")
     tree.check.same("x", tree.read("disk/x"), "other\n")
     tree.check.same("left over", tree.left_over(), [])
+
+
+def full_and_asked(tree: Tree) -> None:
+    tree.write("disk/x.do", "echo x\n")
+    tree.redo("x", folder="disk")
+    tree.run("dd", "if=/dev/zero", "of=disk/fill", "bs=4096")
+    for number in (signal.SIGTERM, signal.SIGKILL):
+        os.kill(int(tree.read("disk/.redo/server/lock")), number)
+        end_server(tree, "disk")
+        run = tree.run("redo-targets", folder="disk")
+        tree.check.same(f"after {number}: targets", (run.status, run.out), (0, "x\n"))
 
 
 def case_broken_tree(tree: Tree) -> None:
