@@ -12,6 +12,7 @@ use redo_files::clock::Clock;
 use redo_files::contents::Contents;
 use redo_files::Folder;
 use redo_server::known::Known;
+use redo_server::marks::Keeping;
 use redo_server::program::Program;
 use redo_server::store::Store;
 use redo_server::system::Poll;
@@ -23,7 +24,7 @@ fn main() -> Result<(), Box<dyn Error>> {
     let live = env::var_os("REDODB_LIVE").ok_or("REDODB_LIVE isn't set")?;
     let contents = Contents::new(Folder::open(b".")?, Clock::new(b"none"), b"boot");
     let mut store = Store::new(Known::new(contents));
-    let program = Program::start(&live.into_vec(), b"commands.log")?;
+    let program = Program::start(&live.into_vec(), b"commands.log", Keeping::Whole)?;
     store.live.begin(program, &Poll::new()?)?;
     store.live.ask_now(b"", 1, &mut Vec::new())?; // the greeting
     let name = store.known.intern(b"target");

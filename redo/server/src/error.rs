@@ -73,17 +73,24 @@ pub enum Failure {
 impl Failure {
     /// What redodb-live says if another one has its log.
     const IN_USE: &'static str = "in use";
-    /// What it says if its log isn't one.
+    /// What it says if a line of its log isn't its answer.
     const DIFFERS: &'static str = " differs";
+    /// What it says if the dump that its log begins with is damaged.
+    const NO_STATE: &'static str = ": no state";
 
     /// Says whether another redodb-live has the log.
     pub fn is_log_in_use(&self) -> bool {
         matches!(self, Failure::Ended(said) if said.ends_with(Failure::IN_USE))
     }
 
-    /// Says whether the log is damaged.
+    /// Says whether a line of the log is damaged, before which it can be cut.
     pub fn is_log_damaged(&self) -> bool {
         matches!(self, Failure::Ended(said) if said.ends_with(Failure::DIFFERS))
+    }
+
+    /// Says whether the dump of the log is damaged. Nothing can be kept of it.
+    pub fn is_dump_damaged(&self) -> bool {
+        matches!(self, Failure::Ended(said) if said.ends_with(Failure::NO_STATE))
     }
 }
 

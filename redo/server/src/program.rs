@@ -13,6 +13,7 @@ use std::{env, io};
 
 use redo_files::FileError;
 
+use crate::marks::Keeping;
 use crate::system;
 
 const LINGER: Duration = Duration::from_secs(5);
@@ -31,10 +32,13 @@ pub struct Program {
 
 impl Program {
     /// Starts the program, with the working folder and the environment of this process.
-    pub fn start(program: &[u8], log: &[u8]) -> Result<Program, FileError> {
+    pub fn start(program: &[u8], log: &[u8], keeping: Keeping) -> Result<Program, FileError> {
         let failed = |cause| FileError::system(program, cause);
         let mut command = Command::new(OsStr::from_bytes(program));
         command.arg("--log").arg(OsStr::from_bytes(log));
+        if keeping == Keeping::Whole {
+            command.arg("--whole");
+        }
         if is_sync_asked_for() {
             command.arg("--sync");
         }

@@ -1,5 +1,5 @@
 use std::fs;
-use std::os::unix::fs::symlink;
+use std::os::unix::fs::{symlink, MetadataExt};
 
 use super::*;
 use crate::scratch::Tree;
@@ -10,7 +10,9 @@ fn marks(tree: &Tree, boot: &str) -> Marks {
 }
 
 fn verdict(tree: &Tree, boot: &str) -> Log {
-    marks(tree, boot).log()
+    let mut marks = marks(tree, boot);
+    marks.open();
+    marks.log()
 }
 
 /// A tree that has a log.
@@ -82,6 +84,20 @@ fn the_mark_of_the_end_goes_at_the_next_begin() {
     marks(&tree, "this").begin().unwrap();
     assert!(!tree.at(".redo/clean").exists());
     assert_eq!(verdict(&tree, "another"), Log::Cut);
+}
+
+#[test]
+fn a_longer_mark_of_a_former_server_is_written_over() {
+    let tree = logged();
+    marks(&tree, "a-boot-of-a-longer-name").begin().unwrap();
+    let file = fs::metadata(tree.at(".redo/server/running")).unwrap().ino();
+    marks(&tree, "this").begin().unwrap();
+    let running = fs::read_to_string(tree.at(".redo/server/running")).unwrap();
+    assert_eq!(running.lines().count(), 1, "{running:?}");
+    let same = fs::metadata(tree.at(".redo/server/running")).unwrap().ino();
+    assert_eq!(same, file);
+    tree.write(".redo/server/running", &(running + "of a longer one\n"));
+    assert_eq!(verdict(&tree, "this"), Log::Whole);
 }
 
 #[test]

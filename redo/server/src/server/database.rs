@@ -27,7 +27,8 @@ impl Server {
     /// Starts redodb-live.
     pub(super) fn start_live(&mut self) {
         let log = self.taken.whole(places::LOG);
-        let started = Program::start(&self.program, &log).and_then(|program| {
+        let keeping = self.marks.open();
+        let started = Program::start(&self.program, &log, keeping).and_then(|program| {
             let begun = self.machine.database_mut().live.begin(program, &self.poll);
             begun.map_err(|cause| redo_files::FileError::system(&self.program, cause))
         });
@@ -47,6 +48,7 @@ impl Server {
                     .live
                     .whole_lines(&self.room[..count]);
                 self.hear_lines(&lines);
+                self.follow_log(count);
             }
             Came::End => {
                 let program = self.machine.database_mut().live.take_program(&self.poll);
@@ -54,6 +56,16 @@ impl Server {
                     self.live_ended(Failure::Ended(program.last_words()));
                 }
             }
+        }
+    }
+
+    /// Marks it if redodb-live, which has answered so many bytes more, has compacted the log.
+    fn follow_log(&mut self, bytes: usize) {
+        if self.state != State::Ready {
+            return;
+        }
+        if let Err(error) = self.marks.follow(bytes) {
+            self.fail_live(Failure::Mark(error));
         }
     }
 
@@ -203,7 +215,12 @@ impl Server {
                 self.timers.set(Alarm::Start, PAUSE);
             }
             _ if self.failure.is_some() => {}
-            _ => self.fail(&failure),
+            _ => {
+                if failure.is_log_damaged() {
+                    self.marks.give_up();
+                }
+                self.fail(&failure);
+            }
         }
     }
 
@@ -227,15 +244,25 @@ impl Server {
 
     /// Adds to what redodb-live said of a damaged log how to go on.
     fn with_way_out(&self, failure: &Failure) -> String {
+        let log = self.taken.whole(places::LOG);
+        if failure.is_dump_damaged() {
+            let words = [b"mv", log.as_slice(), &[&log, &b".lost"[..]].concat()];
+            return format!("{failure}; to begin without it: {}", command_of(&words));
+        }
         if !failure.is_log_damaged() {
             return failure.to_string();
         }
-        let log = self.taken.whole(places::LOG);
-        let words = [self.program.as_slice(), b"--log", &log, b"--salvage"];
-        let command = words.map(quoted).join(" ").replace('\n', "?");
+        let [salvage, whole] = [b"--salvage".as_slice(), b"--whole"]; // the marks know this file
+        let words = [self.program.as_slice(), b"--log", &log, salvage, whole];
         let how = "to cut it before that line, after a copy of it all";
-        format!("{failure}; {how}: {command} </dev/null")
+        format!("{failure}; {how}: {} </dev/null", command_of(&words))
     }
+}
+
+/// Returns a command as it is given to a shell, on one line.
+fn command_of(words: &[&[u8]]) -> String {
+    let words: Vec<String> = words.iter().map(|word| quoted(word)).collect();
+    words.join(" ").replace('\n', "?")
 }
 
 /// Returns a text as a shell reads it as one word.

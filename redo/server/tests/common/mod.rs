@@ -122,11 +122,17 @@ impl Tree {
 
     /// Starts another server, whose database answers otherwise: each line as `sed` edits it.
     pub fn restart_with_edited_answers(&mut self, edit: &str) {
-        self.signal("-TERM");
-        self.server.wait().unwrap();
-        let (live, program) = (live(), self.at("database"));
+        let live = live();
         let line = format!("#!/bin/sh\n'{}' \"$@\" | sed -u '{edit}'\n", live.display());
-        self.write("database", &line);
+        self.restart_with("-TERM", &line);
+    }
+
+    /// Ends the server by a signal, and starts another one, whose database is this script.
+    pub fn restart_with(&mut self, signal: &str, script: &str) {
+        self.signal(signal);
+        self.server.wait().unwrap();
+        let program = self.at("database");
+        self.write("database", script);
         fs::set_permissions(&program, Permissions::from_mode(0o755)).unwrap();
         self.server = start(&self.folder, &program);
     }
