@@ -47,6 +47,14 @@ history 25
 3 failed c.o => ok
 """
 
+BODY = """\
+a 1 built 7 s2 a9993e364706816aba3e25717850c26c9cd0d89d 7 -
+1 4 failed 2 = - 2 -
+c -
+0 1 1b1 2=
+"""
+STATE = f"redodb-log 2\nstate 3 {len(BODY)} 22f1f3b64492f4d2bfa3a3cad318c1450713509c\n{BODY}"
+
 
 def picture(*words: str) -> tuple[int, str, str]:
     """Return status, standard output and standard error of `redodb picture` with these words."""
@@ -265,6 +273,34 @@ class Run(PictureTest):
         log = self.history("redodb-log 1\n1 lock a => granted 1\n1 start a => ok\n1 torn")
         self.assertEqual(list(self.groups(self.root(log), "hold")), ["a"])
 
+    def test_log_that_begins_with_a_state(self) -> None:
+        log = self.history(f"{STATE}1 lock a => granted 8\n1 start a => ok\n2 file b 1 => ok\n1 to")
+        root = self.root(log)
+        self.assertEqual(list(self.groups(root, "session")), ["session 1", "session 2"])
+        self.assertEqual(list(self.groups(root, "hold")), ["a"])
+        self.assertEqual([text.split(":")[0] for text in self.groups(root, "mark")], ["3"])
+
+    def test_log_that_is_a_state_alone(self) -> None:
+        self.assertEqual(self.groups(self.root(self.history(STATE)), "session"), {})
+
+    def test_states_that_are_none(self) -> None:
+        for text, cause in (
+            ("redodb-log 2\n", "line 2 is none of a log"),
+            ("redodb-log 2\nstate 3 73 90", "line 2 is none of a log"),
+            ("redodb-log 2\nstate 3 73\n", "line 2 is none of a log"),
+            ("redodb-log 2\nstate 3 -1 0\n", "line 2 is none of a log"),
+            ("redodb-log 2\n1 lock a => granted 1\n", "line 2 is none of a log"),
+            (STATE[:-1], "cut"),
+            ("redodb-log 3\n", "no history and no log"),
+        ):
+            with self.subTest(text):
+                log = self.history(text)
+                self.assert_fault(f"{log}: {cause}", "run", log)
+
+    def test_line_after_a_state_that_is_none_of_a_history(self) -> None:
+        log = self.history(f"{STATE}1 lock a => granted 8\n1 1 0=\n")
+        self.assert_fault(f"{log}: line 2 is none of a history", "run", log)
+
     def test_empty_history(self) -> None:
         self.assertEqual(self.groups(self.root(self.history("history 0\n")), "session"), {})
 
@@ -462,6 +498,10 @@ class TargetGraph(PictureTest):
             name,
         )
         self.assertEqual((set(nodes), set(edges)), ({name, "x"}, {("x", name)}))
+
+    def test_log_that_begins_with_a_state(self) -> None:
+        log = self.history(f"{STATE}1 lock a => granted 8\n1 start a => ok\n")
+        self.assert_fault(f"{log}: it begins with a state", "graph", log, "a")
 
     def test_build_that_is_under_way_in_a_log(self) -> None:
         log = self.history("redodb-log 1\n1 lock a => granted 1\n1 start a => ok\n")

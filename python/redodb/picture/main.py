@@ -64,7 +64,7 @@ def _graph(words: list[str]) -> str:
     if len(words) != 2 or not is_name(os.fsencode(words[1])):
         raise UsageError
     path, root = os.fsencode(words[0]), os.fsencode(words[1])
-    lines = read_lines(path)
+    lines = read_lines(path, from_nothing=True)
     with Conversation() as database:
         questions = Questions(database, path, lines)
         return Dot(graph_of(questions, root, numbers[0] if numbers else MOST_TARGETS)).draw()
