@@ -1,6 +1,7 @@
 // A live conversation in plain Rust, to measure against: it does what redodb-live does, with the
 // same memo of what is out of date.
-// Usage: plain [--log FILE [--sync] [--salvage]]
+// Usage: plain [--log FILE [--sync] [--salvage] [--whole]]
+// It keeps all lines of a log, as `--whole` asks for. It takes no `--compact`.
 #[path = "../memo/bits.rs"]
 mod bits;
 mod copying;
@@ -43,6 +44,7 @@ struct Words {
     log: Option<String>,
     is_synced: bool,
     is_salvaged: bool,
+    is_whole: bool,
 }
 
 fn words_of(given: impl Iterator<Item = String>) -> Option<Words> {
@@ -53,13 +55,14 @@ fn words_of(given: impl Iterator<Item = String>) -> Option<Words> {
             "--log" => words.log.replace(given.next()?).is_none(),
             "--sync" => !std::mem::replace(&mut words.is_synced, true),
             "--salvage" => !std::mem::replace(&mut words.is_salvaged, true),
+            "--whole" => !std::mem::replace(&mut words.is_whole, true),
             _ => false,
         };
         if !is_new {
             return None;
         }
     }
-    let needs_log = words.is_synced || words.is_salvaged;
+    let needs_log = words.is_synced || words.is_salvaged || words.is_whole;
     (words.log.is_some() || !needs_log).then_some(words)
 }
 
