@@ -98,7 +98,7 @@ class End(ServedTree):
             server = self.serve(idle=60)
             self.assertRegex(
                 self.raw().line(),
-                r"\A0 failed redodb-live: .*/log: line 3 differs; .*: .* --log \S+/log --salvage </",
+                r"\A0 failed redodb-live: .*/log: line 3 differs; .*: .* --log \S+/log --salvage --whole </",
             )
             self.assertEqual(server.wait(PATIENCE), 1)
             self.assertEqual(log.read_bytes(), before)

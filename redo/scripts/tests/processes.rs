@@ -8,6 +8,7 @@ use std::os::unix::fs::PermissionsExt;
 use std::time::{Duration, Instant};
 
 use common::{processes_with, state_of, until, Scripts, Tree};
+use redo_scripts::processes::Group;
 use redo_scripts::program::{Exit, Limit};
 use redo_scripts::{strays, system, text};
 
@@ -216,6 +217,12 @@ fn a_second_end_kills_at_once() {
     assert_eq!(scripts.processes.deadline(), None);
 }
 
+/// Whether the leader of a group is stopped, or waits for a program that is (D): a shell that is
+/// about to start one does. While it forks, SIGCONT doesn't undo SIGTSTP for its child.
+fn is_stopped(group: Group) -> bool {
+    ["T", "D"].contains(&state_of(group.number()).as_str())
+}
+
 #[test]
 fn scripts_stop_and_go_on() {
     let tree = Tree::new();
@@ -223,10 +230,7 @@ fn scripts_stop_and_go_on() {
     let group = scripts.shell(": >one; while ! [ -e go ]; do sleep 0.02 || :; done");
     until("it runs", || tree.has("one"));
     scripts.processes.suspend();
-    // a shell that is about to start a program waits for that, which is stopped: D
-    until("it stops", || {
-        ["T", "D"].contains(&state_of(group.number()).as_str())
-    });
+    until("it stops", || is_stopped(group));
     tree.write("go", "");
     std::thread::sleep(Duration::from_millis(200));
     assert!(scripts.processes.ended().unwrap().is_empty());
@@ -238,9 +242,11 @@ fn scripts_stop_and_go_on() {
 fn a_stopped_script_can_be_ended() {
     let tree = Tree::new();
     let mut scripts = Scripts::new(&tree);
-    scripts.shell("trap 'exit 9' TERM; : >one; for i in $(seq 5000); do sleep 0.02 || :; done");
+    let script = "trap 'exit 9' TERM; : >one; for i in $(seq 5000); do sleep 0.02 || :; done";
+    let group = scripts.shell(script);
     until("it runs", || tree.has("one"));
     scripts.processes.suspend();
+    until("it stops", || is_stopped(group));
     scripts.processes.end_all(Instant::now());
     assert_eq!(scripts.wait()[0].1, Exit::Status(9));
 }
