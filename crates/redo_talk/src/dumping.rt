@@ -9,7 +9,7 @@ ghost use Rattle.redo_talk.specs.Inside.LeftBy.{IsLeftBy};
 
 use redo_dump::dump;
 use redo_live::Live;
-use redo_log::{DUMP_HEADER, restore};
+use redo_log::DUMP_HEADER;
 use std::alloc::{AllocError, Global};
 
 /// The bytes, if memory suffices, of a log that begins with a dump of what is known.
@@ -26,8 +26,7 @@ fn dump_log(alloc: Global, live: &Live) -> Result<Vec<u8>, AllocError>
     Ok(log)
 }
 
-/// A log that begins with a dump of what is known, if it has at most so many bytes, can be restored, and memory
-/// suffices.
+/// A log that begins with a dump of what is known, if it has at most so many bytes, and memory suffices.
 pub(crate) fn dumped(alloc: Global, live: &Live, most: usize) -> Option<Vec<u8>>
     ensures { IfSome result (λ log. (before : List (Line Text)) → AreLogged before
         → IsLeftBy live.now before → IsPast (Some before)
@@ -36,7 +35,7 @@ pub(crate) fn dumped(alloc: Global, live: &Live, most: usize) -> Option<Vec<u8>>
     let Ok(log) = dump_log(alloc, live) else {
         return None;
     };
-    if log.len() > most || restore(alloc, &log).is_err() {
+    if log.len() > most {
         return None;
     }
     Some(log)
