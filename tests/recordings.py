@@ -1,8 +1,10 @@
 """Conversations with redodb-live of which all is recorded that it does with its files
 (recording.c)."""
+import os
 import random
 import subprocess
 from collections.abc import Iterable, Iterator
+from io import BytesIO
 from pathlib import Path
 from typing import NamedTuple
 
@@ -26,11 +28,11 @@ class Recording(NamedTuple):
 
 def events_of(record: bytes) -> Iterator[Event]:
     """The entries of a record, in order."""
-    while record:
-        head, _, record = record.partition(b"\n")
-        kind, place, count, name = head.decode().split(" ", 3)
-        yield Event(kind, name, int(place), record[:int(count)])
-        record = record[int(count) + 1:]
+    entries = BytesIO(record)
+    while head := entries.readline():
+        kind, place, count, name = head.decode().rstrip("\n").split(" ", 3)
+        yield Event(kind, name, int(place), entries.read(int(count)))
+        entries.read(1)
 
 
 def random_lines(choose: random.Random, number: int, is_ended: bool) -> list[str]:
@@ -58,17 +60,14 @@ class Recorder:
 
     def __init__(self, program: Path, folder: Path) -> None:
         self.program, self.folder = program, folder
-        self.library = folder / "recording.so"
+        self.library, self.record = folder / "recording.so", folder / "record"
         source = TOP / "tests/recording.c"
         subprocess.run(["cc", "-shared", "-fPIC", "-O1", "-o", self.library, source], check=True)
 
     def recorded(self, talked: Iterable[list[str]], *words: str) -> Recording:
         """Talks with the program: of the lines that are sent together all are answered before the
         next ones are sent."""
-        record = self.folder / "record"
-        record.unlink(missing_ok=True)
-        variables = {"LD_PRELOAD": str(self.library), "RECORD": str(record)}
-        talk = Talk(self.program, self.folder, *words, **variables)
+        talk = Talk(self.program, self.folder, *words, **self.variables())
         said = talk.hear()
         for number, burst in enumerate(talked):
             mark = f"{MARKS} state mark{number}"
@@ -76,5 +75,20 @@ class Recorder:
             while said and not said.startswith(mark):
                 said = talk.hear()
         status, errors = talk.end()
-        events = list(events_of(record.read_bytes())) if record.exists() else []
-        return Recording(events, status, errors)
+        return Recording(self.events(), status, errors)
+
+    def recorded_of(self, asked: Path, *words: str) -> Recording:
+        """Gives the program a file of lines, which it reads as it likes."""
+        with asked.open("rb") as given:
+            run = subprocess.run([self.program, *words], stdin=given, stdout=subprocess.PIPE,
+                                 stderr=subprocess.PIPE, check=False,
+                                 env={**os.environ, **self.variables()})
+        return Recording(self.events(), run.returncode, run.stderr.decode())
+
+    def variables(self) -> dict[str, str]:
+        """What a program that is recorded finds in its environment, with a new record."""
+        self.record.unlink(missing_ok=True)
+        return {"LD_PRELOAD": str(self.library), "RECORD": str(self.record)}
+
+    def events(self) -> list[Event]:
+        return list(events_of(self.record.read_bytes())) if self.record.exists() else []

@@ -83,10 +83,10 @@ class Heads:
 
 
 class Restarts:
-    """Starts a program on images, in a folder of its own; each image once."""
+    """Starts a program by these words on images, in a folder of its own; each image once."""
 
-    def __init__(self, program: Path, folder: Path, heads: Heads) -> None:
-        self.program, self.heads = Program(program), heads
+    def __init__(self, program: Path, folder: Path, heads: Heads, *words: str) -> None:
+        self.program, self.heads, self.words = Program(program), heads, words
         self.log = folder / "image"
         self.copy, self.new = (folder / f"image.{ending}" for ending in ("damaged", "new"))
         self.known: dict[Image, Outcome] = {}
@@ -110,7 +110,7 @@ class Restarts:
         return Image(*(file.read_bytes() if file.exists() else None for file in self.files()))
 
     def ended(self, *words: str) -> Ended:
-        return self.program.ended(b"", "--log", str(self.log), *words)
+        return self.program.ended(b"", "--log", str(self.log), *self.words, *words)
 
     def started(self, image: Image) -> Outcome:
         """What a start without --salvage makes of an image, and then one with it, if it has to."""
