@@ -6,7 +6,7 @@ ghost use Rattle.redo_terms.specs.Meaning.{command_of, reply_of};
 use crate::told::again;
 use redo_names::{MOST_NAMES, Names};
 use redo_terms::{Command, Reply};
-use redo_text::{LineFault, ReadFault, ReplyFault, command_text, reply_text};
+use redo_text::{LineFault, ReadFault, ReplyFault, put_command, put_reply};
 use std::alloc::Global;
 
 /// Each kind of command.
@@ -47,7 +47,9 @@ fn command_again(alloc: Global, line: &str) -> Option<Vec<u8>> {
     let mut names = Names::new(alloc);
     let command = read_command(alloc, line.as_bytes(), &mut names).ok()?;
     let copy = command.copy(alloc).ok()?;
-    command_text(alloc, &copy, &names).ok()
+    let mut text = Vec::new(alloc);
+    put_command(alloc, &mut text, &copy, &names).ok()?;
+    Some(text)
 }
 
 /// The text of a copy of the reply in this line.
@@ -55,7 +57,9 @@ fn reply_again(alloc: Global, line: &str) -> Option<Vec<u8>> {
     let mut names = Names::new(alloc);
     let reply = read_reply(alloc, line.as_bytes(), &mut names).ok()?;
     let copy = reply.copy(alloc).ok()?;
-    reply_text(alloc, &copy, &names).ok()
+    let mut text = Vec::new(alloc);
+    put_reply(alloc, &mut text, &copy, &names).ok()?;
+    Some(text)
 }
 
 #[test]

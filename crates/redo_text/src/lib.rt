@@ -33,6 +33,6 @@ pub use replies::read_reply;
 pub use scan::{near_position_of, position_of};
 pub use session_file::read_script;
 pub use text::{
-    command_text, line_text, put_command, put_digest_or_none, put_item, put_names, put_reply,
-    put_stamp_or_none, put_word, reply_text,
+    line_text, put_command, put_digest_or_none, put_item, put_names, put_reply, put_stamp_or_none,
+    put_word,
 };

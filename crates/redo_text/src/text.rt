@@ -136,17 +136,6 @@ pub fn put_command(
     put_form(alloc, out, command, names)
 }
 
-/// The text of a command: its words with single spaces, without LF.
-pub fn command_text(alloc: Global, command: &Command, names: &Names) -> Result<Vec<u8>, AllocError>
-    requires { IsBelow (length names.now) (command_of command.now) }
-    ensures { IfOk result
-        (λ text. text.items ≡ command_text_of (command_at names.now command.now)) }
-{
-    let mut out = Vec::new(alloc);
-    put_command(alloc, &mut out, command, names)?;
-    Ok(out)
-}
-
 /// Writes the text of a line of a script: that of its command, with `? ` before it if it is
 /// guarded.
 pub fn put_item(
@@ -248,14 +237,4 @@ pub fn put_reply(
             put_refusal(out, *refusal, names)
         }
     }
-}
-
-/// The text of a reply, without LF.
-pub fn reply_text(alloc: Global, reply: &Reply, names: &Names) -> Result<Vec<u8>, AllocError>
-    requires { IsReplyBelow (length names.now) (reply_of reply.now) }
-    ensures { IfOk result (λ text. text.items ≡ reply_text_of (reply_at names.now reply.now)) }
-{
-    let mut out = Vec::new(alloc);
-    put_reply(alloc, &mut out, reply, names)?;
-    Ok(out)
 }
