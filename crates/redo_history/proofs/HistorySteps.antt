@@ -1,27 +1,19 @@
 -- Reading a history: from line to line, to its end, and to a fault.
-use Rattle.std.proofs.Common.{◌≡◌, ℕ, ◌+◌, ◌≤◌, List, [], ◌∷◌, ◌++◌, map, length, refl, sym, ap, subst, ◌∙◌, arith, append-nil, append_assoc}
+use Rattle.std.proofs.Common.{◌≡◌, ℕ, ◌+◌, ◌≤◌, List, [], ◌∷◌, ◌++◌, length, refl, sym, ap, subst, ◌∙◌, arith, append-nil, append_assoc}
 use Rattle.std.specs.Prelude.{Contains}
 use Rattle.std.specs.List.{flat_map}
 use Rattle.std.proofs.lemmas.Grind.{flat_map-append}
-use Rattle.std.proofs.lemmas.List.{map_push}
-use Rattle.redo_names.specs.Inside.Names.{Extends}
 use Rattle.redo_model.specs.Names.{Text}
 use Rattle.redo_model.specs.History as histories
-use Rattle.redo_terms.specs.declared.reply.Line.{Line}
 use Rattle.redo_text.specs.Grammar.{with_names}
-use Rattle.redo_terms.specs.Meaning.{line_of, line_at}
 use Rattle.redo_history.specs.Histories.{ended, header_of}
 use Rattle.redo_text.proofs.ScriptParts.{with_names-append}
 use Rattle.redo_history.specs.HistoryTexts.{IsHistoryLine, AreHistoryLines, names_in_line, AreNamesOf, AreLinesOf, IsHistory}
 use Rattle.redo_history.specs.Inside.HistoryTexts.{AddsLineNames}
 use Rattle.redo_history.specs.HistoryFaults.{IsReadUpTo, IsReadBefore, IsHistoryFault}
 use Rattle.redo_history.specs.Inside.HistoryFaults.{IsLineCause}
-use Rattle.redo_history.specs.Recorded.{AreLinesBelow}
-use Rattle.redo_history.specs.Inside.Recorded.{Recorded, lines_of}
 use Rattle.redo_history.specs.declared.fault.HistoryFault.{HistoryFault}
 use Rattle.redo_history.specs.declared.fault.HistoryFault.TheVariants.{Memory, BadHeader, Cut, BadSession, BadLine, BadReply}
-use Rattle.redo_history.proofs.RecordedLines.{recorded_lines}
-use Rattle.redo_history.proofs.MoreNames.{lines_at-Extends}
 
 -- these lines are read, with these names, and this is what is left of the input
 pub record IsReadSoFar (input : Text) (count : ℕ) (lines : List (histories.Line Text))
@@ -97,15 +89,6 @@ one_read input count lines names left text after line new so_far cut is adds =
           ∙ ap (λ (l : Text). l ++ after) (sym whole);
     }
 
--- one line of numbers more, if more names are known
-pub lines_push : (lines : List Line) (line : Line) (names new : List Text) → Extends names new
-    → AreLinesBelow names lines
-    → map (line_at new) (lines ++ line ∷ []) ≡ map (line_at names) lines ++ line_at new line ∷ []
-lines_push lines line names new kept below =
-    map_push (line_at new) lines line
-    ∙ ap (λ (l : List (histories.Line Text)). l ++ line_at new line ∷ [])
-    (lines_at-Extends names new kept lines below)
-
 -- all lines are read
 pub all_read : (input : Text) (count : ℕ) (lines : List (histories.Line Text)) (names : List Text)
     (left : Text) → count ≤ 1048576 → length lines ≡ count
@@ -118,17 +101,6 @@ all_read input count lines names left few counted so_far = record {
       (sym counted);
   read = so_far.read;
 }
-
--- the same for the lines of numbers of a history
-pub history_read : (input : Text) (lines : List Line) (names : List Text) (history : Recorded)
-    → IsHistory input names (map (line_at names) lines)
-    → history.names ≡ names → history.lines ≡ map line_of lines
-    → IsHistory input history.names (lines_of history)
-history_read input lines names history whole named recorded =
-    let lines_are : map (line_at names) lines ≡ lines_of history =
-    recorded_lines history names lines (sym named) (sym recorded) in
-    subst (λ (found : List Text × List (histories.Line Text)). IsHistory input found.0 found.1)
-    (λ i. (sym named i, lines_are i)) whole
 
 pub read_up_to : (input : Text) (count number : ℕ) (lines : List (histories.Line Text))
     (names : List Text) (left : Text)

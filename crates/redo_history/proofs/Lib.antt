@@ -18,7 +18,6 @@ pub mod MoreNames
 pub mod NoFault
 pub mod OneFault
 pub mod OneHistory
-pub mod ReadOnly
 pub mod RecordedLines
 pub mod RepliesFit
 pub mod TextCuts

@@ -1,16 +1,14 @@
--- Adding names does not change what lines mean, nor that their numbers have names.
-use Rattle.std.proofs.Common.{◌≡◌, ℕ, List, [], ◌∷◌, map, length, refl, ap}
+-- Adding names does not change what a reply means, nor that its numbers have names.
+use Rattle.std.proofs.Common.{◌≡◌, ℕ, List, [], ◌∷◌, length, refl, ap}
 use Rattle.redo_names.specs.Inside.Names.{Extends}
 use Rattle.redo_model.specs.Names.{Text}
 use Rattle.redo_model.specs.Reply as replies
-use Rattle.redo_model.specs.Renaming.{IsReplyBelow, IsLineBelow}
+use Rattle.redo_model.specs.Renaming.{IsReplyBelow}
 use Rattle.redo_terms.specs.declared.reply.Refusal.TheVariants.{NotLocked, Building, NotBuilding, Itself, Exists}
 use Rattle.redo_terms.specs.declared.reply.Reply.{Reply}
 use Rattle.redo_terms.specs.declared.reply.Reply.TheVariants.{Okay, Granted, Busy, Stale, Stamped, Ood, Targets, Sources, Refused}
-use Rattle.redo_terms.specs.declared.reply.Line.{Line}
-use Rattle.redo_terms.specs.Meaning.{command_of, reply_of, reply_at, line_of, line_at}
-use Rattle.redo_text.proofs.Added.{text_at-Extends, texts-Extends, all_below-Extends, IsBelow-Extends, command_at-Extends}
-use Rattle.redo_history.specs.Recorded.{AreLinesBelow}
+use Rattle.redo_terms.specs.Meaning.{reply_of, reply_at}
+use Rattle.redo_text.proofs.Added.{text_at-Extends, texts-Extends, all_below-Extends}
 
 module _ (old new : List Text) (x : Extends old new) where
   pub IsReplyBelow-Extends : (reply : replies.Reply ℕ) → IsReplyBelow (length old) reply
@@ -46,29 +44,3 @@ module _ (old new : List Text) (x : Extends old new) where
   reply_at-Extends (Refused Itself) below = refl
   reply_at-Extends (Refused (Exists n)) below = let e = text_at-Extends old new n x below in
       λ i. replies.Refused (replies.Exists (e i))
-
-  pub line_at-Extends : (line : Line) → IsLineBelow (length old) (line_of line)
-      → line_at new line ≡ line_at old line
-  line_at-Extends line below =
-      let said = command_at-Extends old new line.command x below.0 in
-      let answered = reply_at-Extends line.reply below.1 in
-      λ i. record { session = line.session; command = said i; reply = answered i }
-
-  pub lines_at-Extends : (lines : List Line) → AreLinesBelow old lines
-      → map (line_at new) lines ≡ map (line_at old) lines
-  lines_at-Extends [] below = refl
-  lines_at-Extends (line ∷ lines) below =
-      let one = line_at-Extends line below.0 in
-      let others = lines_at-Extends lines below.1 in
-      λ i. one i ∷ others i
-
-  pub AreLinesBelow-Extends : (lines : List Line) → AreLinesBelow old lines
-      → AreLinesBelow new lines
-  AreLinesBelow-Extends [] below = tt
-  AreLinesBelow-Extends (line ∷ lines) below = (
-    (
-      IsBelow-Extends old new (command_of line.command) x below.0.0,
-      IsReplyBelow-Extends (reply_of line.reply) below.0.1,
-    ),
-    AreLinesBelow-Extends lines below.1,
-  )

@@ -1,4 +1,2 @@
 pub mod HistoryFaults
 pub mod HistoryTexts
-pub mod Kept
-pub mod Recorded

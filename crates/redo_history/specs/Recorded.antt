@@ -1,4 +1,4 @@
--- The value of a history.
+-- Lines over numbers, as the code has them.
 use Rattle.std.specs.Prelude.{List, length}
 use Rattle.std.specs.List.{AllByRecursion}
 use Rattle.redo_model.specs.Names.{Text}

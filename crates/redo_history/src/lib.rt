@@ -3,7 +3,6 @@
 
 mod cuts;
 mod fault;
-mod history;
 mod laws;
 mod logs;
 mod printed;
@@ -12,13 +11,12 @@ mod verdict;
 
 pub use cuts::{cut_at, cut_at_arrow, cut_at_space};
 pub use fault::HistoryFault;
-pub use history::{History, MOST_LINES};
 pub use laws::{
     fault_or_history, history_reads_back, legal_history_reads_back, legal_lines_fit, no_fault,
     one_history,
 };
 pub use logs::{cut_lines, one_cut};
-pub use printed::{history_text, put_answer, put_header, put_line, put_number, put_session};
-pub use read::{read_header, read_history, read_line, session_of};
+pub use printed::{put_answer, put_header, put_line, put_number, put_session};
+pub use read::{read_header, read_line, session_of};
 pub use redo_journal::MOST_SESSIONS;
 pub use verdict::Verdict;

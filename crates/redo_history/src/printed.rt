@@ -1,8 +1,7 @@
-ghost use Rattle.std.specs.Prelude.{◌≡◌, ◌+◌, ◌++◌, length, map, codes, decimal, IfOk, OnOk};
+ghost use Rattle.std.specs.Prelude.{◌≡◌, ◌+◌, ◌++◌, length, codes, decimal, OnOk};
 ghost use Rattle.redo_model.specs.Renaming.{IsLineBelow};
 ghost use Rattle.redo_terms.specs.Meaning.{line_of, line_at};
-ghost use Rattle.redo_history.specs.Histories.{ended, header_of, answer_text_of, line_text_of, history_text_of};
-ghost use Rattle.redo_history.specs.Recorded.{AreLinesBelow};
+ghost use Rattle.redo_history.specs.Histories.{ended, header_of, answer_text_of, line_text_of};
 
 use itoa::Buffer;
 use redo_names::Names;
@@ -67,18 +66,4 @@ pub fn put_line(
 {
     put_session(text, line.session)?;
     put_answer(alloc, text, line, names)
-}
-
-/// The text of a history: how many lines it has, and the lines.
-pub fn history_text(alloc: Global, lines: &[Line], names: &Names) -> Result<Vec<u8>, AllocError>
-    requires { AreLinesBelow names.now lines.now }
-    ensures { IfOk result (λ text. text.items
-        ≡ history_text_of (map (line_at names.now) lines.now)) }
-{
-    let mut text = Vec::new(alloc);
-    put_header(&mut text, lines.len())?;
-    for line in lines {
-        put_line(alloc, &mut text, line, names)?;
-    }
-    Ok(text)
 }

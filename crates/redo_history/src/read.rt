@@ -1,29 +1,23 @@
-ghost use Rattle.std.specs.Prelude.{◌≡◌, ◌⊎◌, ◌↔◌, ℕ, ◌<◌, ◌≤◌, ◌++◌, List, [], length, map, MatchOption, IfOk, IfErr, OnOk, IsOkAnd};
-ghost use Rattle.std.specs.List.{AllByRecursion};
+ghost use Rattle.std.specs.Prelude.{◌≡◌, ◌↔◌, ℕ, ◌<◌, ◌≤◌, ◌++◌, length, MatchOption, IfOk, IfErr};
 ghost use Rattle.redo_names.specs.Inside.Names.{Extends};
-ghost use Rattle.redo_model.specs.Names.{Text};
-ghost use Rattle.redo_model.specs.History.{Line as LineOf};
 ghost use Rattle.redo_model.specs.Renaming.{IsLineBelow};
 ghost use Rattle.redo_terms.specs.Meaning.{line_of, line_at};
 ghost use Rattle.redo_history.specs.Histories.{header_of};
-ghost use Rattle.redo_history.specs.Recorded.{AreLinesBelow};
-ghost use Rattle.redo_history.specs.Inside.Recorded.{lines_of};
-ghost use Rattle.redo_history.specs.HistoryTexts.{IsHistory, IsHistoryLine};
+ghost use Rattle.redo_history.specs.HistoryTexts.{IsHistoryLine};
 ghost use Rattle.redo_history.specs.Inside.HistoryTexts.{AddsLineNames};
 ghost use Rattle.redo_history.specs.HistoryFaults.{IsHistoryFault, IsSessionWord};
 ghost use Rattle.redo_history.specs.Inside.HistoryFaults.{IsLineCause};
 
 use crate::cuts::{cut_at, cut_at_arrow, cut_at_space};
 use crate::fault::HistoryFault;
-use crate::history::{History, MOST_LINES};
 use redo_journal::MOST_SESSIONS;
 use redo_names::{MOST_NAMES, Names};
 use redo_terms::Line;
 use redo_text::{LineFault, ReadFault, ReplyFault, read_command, read_number, read_reply};
 use std::alloc::Global;
 
-/// A line of a history has at least this many bytes with its LF: `1 ood => ok`.
-const SHORTEST_LINE: usize = 12;
+/// How many lines a history has at most.
+const MOST_LINES: usize = 1_048_576;
 
 /// The session, counted from 0, with this word as its number, if there are that many sessions.
 pub fn session_of(word: &[u8], most: u16) -> Option<u16>
@@ -116,65 +110,4 @@ pub fn read_line(
         command,
         reply,
     })
-}
-
-/// Reads the lines of a history, of which its header counts so many. No name and no line is known before.
-fn read_lines(
-    alloc: Global,
-    count: usize,
-    rest: &[u8],
-    names: &mut Names,
-    lines: &mut Vec<Line>,
-) -> Result<(), HistoryFault>
-    requires few { count ≤ 1048576 }
-    requires names { names.old ≡ [] }
-    requires lines { lines.old.items ≡ [] }
-    ensures read { OnOk result (IsHistory (header_of count ++ rest.now) names.new
-        (map (line_at names.new) lines.new.items)) }
-    ensures below { OnOk result (AreLinesBelow names.new lines.new.items) }
-    ensures sessions { OnOk result
-        (AllByRecursion (λ line. line.session < 64) lines.new.items) }
-    ensures most { OnOk result (length lines.new.items ≤ 1048576) }
-    ensures fault { IfErr result (IsHistoryFault (header_of count ++ rest.now)) }
-{
-    let mut left = rest;
-    'lines: for number in 1..count + 1 {
-        let Some((text, after)) = cut_at(left, b'\n') else {
-            return Err(HistoryFault::Cut);
-        };
-        lines.push(read_line(alloc, number, text, names)?)?;
-        left = after;
-    }
-    Ok(())
-}
-
-/// The history at the beginning of the input.
-fn history_in(alloc: Global, input: &[u8]) -> Result<History, HistoryFault>
-    ensures read { IfOk result (λ history. IsHistory input.now history.names (lines_of history)) }
-    ensures fault { IfErr result (IsHistoryFault input.now) }
-    ensures bad_header { IsHistoryFault input.now HistoryFault.BadHeader
-        → result ≡ Err HistoryFault.BadHeader }
-{
-    let (count, rest) = read_header(input)?;
-    let mut lines = Vec::with_capacity(alloc, count.min(rest.len() / SHORTEST_LINE))?;
-    let mut names = Names::new(alloc);
-    read_lines(alloc, count, rest, &mut names, &mut lines)?;
-    Ok(History::new(names, lines))
-}
-
-/// Reads a history. Ignores what follows its lines.
-pub fn read_history(alloc: Global, input: &[u8]) -> Result<History, HistoryFault>
-    // What is read is a history of these names and lines.
-    ensures read { IfOk result (λ history. IsHistory input.now history.names (lines_of history)) }
-    // A history is read, unless memory runs out.
-    ensures only { (names : List Text) (lines : List (LineOf Text))
-        → IsHistory input.now names lines → (result ≡ Err HistoryFault.Memory)
-        ⊎ IsOkAnd result (λ history. (history.names ≡ names) × (lines_of history ≡ lines)) }
-    // A fault is that of the header or of the first faulty line.
-    ensures fault { IfErr result (IsHistoryFault input.now) }
-    // A bad header is found before anything grows: it comes before `Memory`.
-    ensures bad_header { IsHistoryFault input.now HistoryFault.BadHeader
-        → result ≡ Err HistoryFault.BadHeader }
-{
-    history_in(alloc, input)
 }

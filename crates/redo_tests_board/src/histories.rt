@@ -1,10 +1,9 @@
 //! The histories that journals are merged to.
 ghost use Rattle.std.specs.Prelude.{IsTrue};
-ghost use Rattle.std.specs.List.{AllByRecursion};
 ghost use Rattle.redo_model.specs.Renaming.{AllBelow, IsBelow, IsReplyBelow, IsLineBelow};
 ghost use Rattle.redo_terms.specs.Meaning.{command_of, reply_of, line_of};
 
-use redo_history::{HistoryFault, history_text};
+use redo_history::{HistoryFault, put_header, put_line};
 use redo_journal::{Journal, Plan, are_journals};
 use redo_merge::merge;
 use redo_replay::{Verdict, replay};
@@ -49,12 +48,10 @@ fn is_reply_below(count: u32, reply: &Reply) -> bool
     }
 }
 
-/// Whether the numbers in each line are below the count of names.
-fn are_below(count: u32, lines: &[Line]) -> bool
-    ensures { IsTrue result → AllByRecursion (λ line. IsLineBelow count (line_of line)) lines.now }
+fn is_line_below(count: u32, line: &Line) -> bool
+    ensures { IsTrue result → IsLineBelow count (line_of line.now) }
 {
-    lines.iter().all(|line| is_command_below(count, &line.command)
-        && is_reply_below(count, &line.reply))
+    is_command_below(count, &line.command) && is_reply_below(count, &line.reply)
 }
 
 /// The history that the journals are merged to.
@@ -76,8 +73,13 @@ pub(crate) fn text_of(
     lines: &[Line],
 ) -> Result<Vec<u8>, AllocError> {
     let names = plan.names();
-    assert!(rt; are_below(names.len(), lines));
-    history_text(alloc, lines, names)
+    let mut text = Vec::new(alloc);
+    put_header(&mut text, lines.len())?;
+    for line in lines {
+        assert!(rt; is_line_below(names.len(), line));
+        put_line(alloc, &mut text, line, names)?;
+    }
+    Ok(text)
 }
 
 /// Whether the history of this text, which has no fault, replays as `same`, with this many lines.

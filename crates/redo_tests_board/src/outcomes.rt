@@ -3,8 +3,8 @@ ghost use Rattle.std.specs.Prelude.{IfOk};
 ghost use Rattle.redo_history.specs.Recorded.{AreLinesBelow};
 
 use crate::gates::{Pairs, Pauses};
+use crate::histories::text_of;
 use redo_board::Gate;
-use redo_history::history_text;
 use redo_journal::{Entry, Journal, Place, Plan};
 use redo_session::{Outcome, run, run_text};
 use redo_testing::planned;
@@ -31,7 +31,7 @@ pub(crate) struct Run {
 }
 
 /// The outcome of a run, and the text of its history.
-pub(crate) fn ran<G: Gate + Sync, R: Threads + Wait + Sync>(
+pub(crate) fn ran<G: Gate + Sync, R: Threads + Wait + Abort + Sync>(
     rt: &R,
     alloc: Global,
     plan: &Plan,
@@ -40,7 +40,7 @@ pub(crate) fn ran<G: Gate + Sync, R: Threads + Wait + Sync>(
     ensures { IfOk result (λ r. AreLinesBelow plan.now.names r.0.history.items) }
 {
     let outcome = run(rt, alloc, plan, gate)?;
-    let history = history_text(alloc, &outcome.history, plan.names())?;
+    let history = text_of(rt, alloc, plan, &outcome.history)?;
     Ok((outcome, history))
 }
 

@@ -1,6 +1,5 @@
-//! Histories are read, replayed and printed.
+//! Histories are replayed.
 use crate::told::again;
-use redo_history::{history_text, read_history};
 use redo_replay::{replay, verdict_text};
 use std::alloc::Global;
 
@@ -13,22 +12,10 @@ const HISTORY: &str = "history 9\n1 file a.c 10 => ok\n1 lock a.o => granted 1\n
 const WRONG_LIST: &str =
     "history 3\n1 file a 1 => ok\n1 lock t => granted 1\n1 targets => targets a\n";
 
-/// The text of the history that is read from a text.
-fn history_again(alloc: Global, text: &str) -> Option<Vec<u8>> {
-    let history = read_history(alloc, text.as_bytes()).ok()?;
-    history_text(alloc, history.lines(), history.names()).ok()
-}
-
 /// The text of the verdict on a history.
 fn verdict_on(alloc: Global, text: &str) -> Option<Vec<u8>> {
     let (verdict, live) = replay(alloc, text.as_bytes()).ok()?;
     verdict_text(alloc, &verdict, live.names()).ok()
-}
-
-#[test]
-fn histories(rt: HostRuntime) {
-    let text = again!(&rt, rt.alloc(), history_again(rt.alloc(), HISTORY));
-    assert!(rt; text.as_slice() == HISTORY.as_bytes());
 }
 
 #[test]
