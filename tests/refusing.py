@@ -11,10 +11,10 @@ class Sweep:
     """A run with its first request refused, its second one, and so on, until a run meets no refusal.
 
     `run` is called with the environment. It returns what is wrong with the run, and how often the run has reported
-    a refusal in its answers; a test reports it to the library, or reports nothing and has only to pass."""
+    a refusal in its answers; a test reports it to the library."""
 
-    def __init__(self, library, variable, run, tells=True):
-        self.library, self.variable, self.run, self.tells = library, variable, run, tells
+    def __init__(self, library, variable, run):
+        self.library, self.variable, self.run = library, variable, run
         self.refused = self.told = self.spared = self.untold = 0
         self.wrong = []
 
@@ -33,15 +33,14 @@ class Sweep:
         spared = min(spared, 1)
         if running:
             fault = fault or f"{running} threads not joined"
-        if self.tells and (told + spared < refused or told and not refused):
+        if told + spared < refused or told and not refused:
             fault = fault or f"{refused} refused, {told} told, {spared} spared"
         if fault:
             self.wrong.append(f"request {at}: {fault}")
         self.refused += refused
-        if self.tells:
-            self.told += told
-            self.spared += spared
-            self.untold += max(refused - told - spared, 0)
+        self.told += told
+        self.spared += spared
+        self.untold += max(refused - told - spared, 0)
         return bool(refused)
 
     def all(self):

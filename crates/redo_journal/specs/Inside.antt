@@ -1,4 +1,3 @@
 pub mod Commands
 pub mod Holds
-pub mod Numbers
 pub mod Kept

@@ -1,4 +1,4 @@
--- The numbers of entries, and whether each is the next.
+-- The numbers of entries, and which is the next.
 use Rattle.std.specs.Prelude.{ℕ, List, Option, option_map, slice_index_or}
 use Rattle.redo_model.specs.Names.{Text}
 use Rattle.redo_model.specs.Command.{Item, Ood, commands_in}

@@ -1,6 +1,6 @@
-ghost use Rattle.std.specs.Prelude.{◌≡◌, ℕ, ◌<◌, ◌↔◌, IsTrue, IfSome, cond, length, map, filter, option_map};
+ghost use Rattle.std.specs.Prelude.{◌≡◌, ℕ, ◌<◌, IfSome, length, map, filter, option_map};
 ghost use Rattle.std.specs.Option.{ForSome};
-ghost use Rattle.redo_model.specs.Command.{Failed, Unlock, asked_lock};
+ghost use Rattle.redo_model.specs.Command.{asked_lock};
 ghost use Rattle.redo_model.specs.Renaming.{IsBelow};
 ghost use Rattle.redo_model.specs.Closing.{lesser_of, least, closing_of};
 ghost use Rattle.redo_terms.specs.Meaning.{command_of, by_text};
@@ -10,7 +10,7 @@ ghost use Rattle.redo_journal.specs.Holds.{Says, AreToldBelow, own_lines};
 ghost use Rattle.redo_journal.specs.Inside.Holds.{is_held, locked_in, lesser_held};
 
 use crate::entry::Entry;
-use crate::holds::{Hold, Holds};
+use crate::holds::Holds;
 use redo_names::Names;
 use redo_terms::{Command, Script};
 use std::cmp::Ordering;
@@ -38,29 +38,6 @@ fn lesser(names: &Names, name: u32, other: Option<u32>) -> u32
     match names.order(name, other) {
         Ordering::Greater => other,
         Ordering::Less | Ordering::Equal => name,
-    }
-}
-
-/// Whether the command closes the name: fails its build if there is one, else unlocks it.
-fn is_letting_go(command: &Command, name: u32, hold: Hold) -> bool
-    ensures { IsTrue result
-        ↔ (command_of command.now ≡ cond hold.building (Failed name) (Unlock name)) }
-{
-    match command {
-        Command::Failed(failed) => hold.building && *failed == name,
-        Command::Unlock(unlocked) => !hold.building && *unlocked == name,
-        _ => false,
-    }
-}
-
-/// Whether the entry's command closes the name.
-pub(crate) fn lets_go(script: &Script, entry: &Entry, name: u32, hold: Hold) -> bool
-    ensures { IsTrue result ↔ (command_told (map item_of script.now) entry.now
-        ≡ cond hold.building (Failed name) (Unlock name)) }
-{
-    match entry.command(script) {
-        Some(command) => is_letting_go(command.get(), name, hold),
-        None => false,
     }
 }
 

@@ -4,12 +4,10 @@
 mod closing;
 mod entry;
 mod holds;
-mod journals;
 mod next;
 mod plan;
 
 pub use entry::{Closing, CommandDone, Entry, Journal, Place};
 pub use holds::{Hold, Holds};
-pub use journals::are_journals;
 pub use next::{Next, next_line, next_step};
 pub use plan::{MOST_SESSIONS, Plan, PlanFault};

@@ -1,15 +1,12 @@
-ghost use Rattle.std.specs.Prelude.{◌≡◌, ℕ, ◌<◌, ◌≤◌, ◌↔◌, ◌||◌, not, All, IfSome, IsSome, IsTrue, drop, length, map, option_map};
-ghost use Rattle.redo_model.specs.Journals.{first_from, next_line_of, closing_number, closing_after, numbered};
-ghost use Rattle.redo_model.specs.Closing.{closing_of};
+ghost use Rattle.std.specs.Prelude.{◌≡◌, ℕ, ◌<◌, ◌≤◌, ◌↔◌, ◌||◌, not, All, IfSome, IsSome, drop, length, map, option_map};
+ghost use Rattle.redo_model.specs.Journals.{first_from, next_line_of, closing_number};
 ghost use Rattle.redo_model.specs.Renaming.{IsBelow};
-ghost use Rattle.redo_terms.specs.Meaning.{command_of, by_text};
+ghost use Rattle.redo_terms.specs.Meaning.{command_of};
 ghost use Rattle.redo_terms.specs.Inside.Meaning.{item_of};
 ghost use Rattle.redo_journal.specs.Holds.{Says, AreToldBelow, own_lines};
-ghost use Rattle.redo_journal.specs.Journals.{line_told, lines_told, IsMarked};
+ghost use Rattle.redo_journal.specs.Journals.{lines_told};
 ghost use Rattle.redo_journal.specs.Numbers.{numbered_in, numbered_by, next_after};
-ghost use Rattle.redo_journal.specs.Inside.Numbers.{IsNextAfter};
 
-use crate::closing::lets_go;
 use crate::entry::Entry;
 use crate::holds::Holds;
 use redo_names::Names;
@@ -103,48 +100,5 @@ pub fn next_step(names: &Names, script: &Script, entries: &[Entry], holds: &Hold
                 closing: Some(command),
             })
         }
-    }
-}
-
-/// Whether the entry is that of the closing command after the entries before it.
-fn closes(names: &Names, script: &Script, before: &[Entry], holds: &Holds, entry: &Entry) -> bool
-    requires names { length holds.now ≡ length names.now }
-    requires below { AreToldBelow (length names.now) (map item_of script.now) before.now }
-    ensures { (s : ℕ)
-        → Says names.now holds.now (own_lines s (map item_of script.now) before.now)
-        → IsTrue result
-        ↔ (option_map (closing_after (map item_of script.now)
-        (lines_told s (map item_of script.now) before.now))
-        (closing_of (by_text names.now) (own_lines s (map item_of script.now) before.now))
-        ≡ Some (numbered (line_told s (map item_of script.now) entry.now))) }
-{
-    match holds.least_held(names, script, before) {
-        Some(name) => {
-            closing_number(script, before) == entry.number as usize
-                && lets_go(script, entry, name, holds.at(name))
-        }
-        None => false,
-    }
-}
-
-/// Whether the entry is the next after the entries before it.
-pub(crate) fn is_next(
-    names: &Names,
-    script: &Script,
-    before: &[Entry],
-    holds: &Holds,
-    entry: &Entry,
-) -> bool
-    requires names { length holds.now ≡ length names.now }
-    requires below { AreToldBelow (length names.now) (map item_of script.now) before.now }
-    requires marked { IsMarked (map item_of script.now) entry.now }
-    ensures { (s : ℕ)
-        → Says names.now holds.now (own_lines s (map item_of script.now) before.now)
-        → IsTrue result
-        ↔ IsNextAfter names.now s (map item_of script.now) before.now entry.now }
-{
-    match next_line(script, before) {
-        Some(number) => number == entry.number,
-        None => closes(names, script, before, holds, entry),
     }
 }

@@ -1,10 +1,8 @@
-//! Tests of journals and their merging, and of what no contract says of names, stamps and digests.
+//! Tests of what no contract says of names, stamps and digests.
 #![tactic(auto)]
 
 #[cfg(test)]
 mod digests;
-#[cfg(test)]
-mod merge;
 #[cfg(test)]
 mod names;
 #[cfg(test)]

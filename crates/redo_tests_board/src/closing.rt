@@ -228,16 +228,16 @@ const IN_TURN: &str = "history 14\n\
 /// The same if they go step by step: each gets its first target, and finds the other's held.
 const STEP_BY_STEP: &str = "history 11\n\
     1 lock b => granted 1\n\
-    1 start b => ok\n\
     2 lock a => granted 1\n\
-    1 lock a => busy 1\n\
+    1 start b => ok\n\
     2 start a => ok\n\
-    1 start a => refused not-locked\n\
+    1 lock a => busy 1\n\
     2 lock b => busy 1\n\
+    1 start a => refused not-locked\n\
     2 failed a => ok\n\
     1 failed b => ok\n\
-    1 unlock b => ok\n\
-    2 unlock a => ok\n";
+    2 unlock a => ok\n\
+    1 unlock b => ok\n";
 
 /// The turns in these schedules.
 const TURNS_IN_TURN: [usize; 14] = [0, 0, 0, 0, 0, 0, 0, 0, 1, 1, 1, 1, 1, 1];

@@ -1,13 +1,12 @@
-//! The histories that journals are merged to.
+//! The histories that journals make.
 ghost use Rattle.std.specs.Prelude.{IsTrue};
 ghost use Rattle.redo_model.specs.Renaming.{AllBelow, IsBelow, IsReplyBelow, IsLineBelow};
 ghost use Rattle.redo_terms.specs.Meaning.{command_of, reply_of, line_of};
 
 use redo_history::{HistoryFault, put_header, put_line};
-use redo_journal::{Journal, Plan, are_journals};
-use redo_merge::merge;
+use redo_journal::{Entry, Journal, Plan};
 use redo_replay::{Verdict, replay};
-use redo_terms::{Command, Kind, Line, Refusal, Reply};
+use redo_terms::{Command, Kind, Line, Refusal, Reply, Script};
 use std::alloc::{AllocError, Global};
 use std::process::Abort;
 
@@ -54,15 +53,44 @@ fn is_line_below(count: u32, line: &Line) -> bool
     is_command_below(count, &line.command) && is_reply_below(count, &line.reply)
 }
 
-/// The history that the journals are merged to.
-pub(crate) fn merged(
+/// The line of the entry of this session.
+fn line_of(
+    rt: &impl Abort,
+    alloc: Global,
+    session: u8,
+    script: &Script,
+    entry: &Entry,
+) -> Result<Line, AllocError> {
+    let command = entry.command(script).expect(rt, "a command");
+    Ok(Line {
+        session: session as u16,
+        command: command.get().copy(alloc)?,
+        reply: entry.reply.copy(alloc)?,
+    })
+}
+
+/// The history of sessions that took their steps in this order: each step but those after a
+/// session's end made its next line.
+pub(crate) fn in_turn(
     rt: &impl Abort,
     alloc: Global,
     plan: &Plan,
     journals: &[Journal],
+    turns: &[usize],
 ) -> Result<Vec<Line>, AllocError> {
-    assert!(rt; are_journals(alloc, plan, journals)?);
-    Ok(merge(alloc, plan, journals)?.expect(rt, "a joint order"))
+    let scripts = plan.scripts();
+    assert!(rt; journals.len() == scripts.len() && scripts.len() <= 4);
+    let mut next = [0usize; 4];
+    let mut lines = Vec::new(alloc);
+    for &turn in turns {
+        assert!(rt; turn < scripts.len());
+        if let Some(entry) = journals[turn].entries.get(next[turn]) {
+            let session = journals[turn].session;
+            lines.push(line_of(rt, alloc, session, &scripts[turn], entry)?)?;
+            next[turn] = next[turn].wrapping_add(1);
+        }
+    }
+    Ok(lines)
 }
 
 /// The text of a history.

@@ -3,7 +3,7 @@ ghost use Rattle.std.specs.Prelude.{length, All, IfOk};
 ghost use Rattle.redo_board.specs.Kept.{IsBoardOf, SitsAt, IsFreshOf, WorksAt};
 
 use crate::counts::{Counts, check_counts};
-use crate::histories::{merged, replays, text_of};
+use crate::histories::{in_turn, replays, text_of};
 use crate::order::{advance, first_schedule};
 use crate::seats::{split, worker_of};
 use redo_board::{Board, Seat, Worker};
@@ -187,7 +187,7 @@ pub(crate) fn lines_of_schedule(
 ) -> Result<(Vec<Line>, u32, u32), AllocError> {
     let gate = Counts::new(alloc)?;
     let journals = journals_of_schedule(rt, alloc, plan, &gate, turns)?;
-    let lines = merged(rt, alloc, plan, &journals)?;
+    let lines = in_turn(rt, alloc, plan, &journals, turns)?;
     check_legal(rt, alloc, plan, &lines)?;
     let rows = check_counts(rt, &lines, &journals, &gate);
     Ok((lines, rows, gate.all()))
