@@ -79,14 +79,6 @@ impl Records {
         self.cells[n as usize].state()
     }
 
-    /// How often it was built.
-    pub fn builds(&self, n: u32) -> u32
-        requires { n < length self.now }
-        ensures { result ≡ (cell_at self.now n).builds }
-    {
-        self.cells[n as usize].builds()
-    }
-
     /// All that is known of it.
     pub fn cell(&self, n: u32) -> &Cell
         requires { n < length self.now }

@@ -1,16 +1,14 @@
-ghost use Rattle.std.specs.Prelude.{◌≡◌, ◌⊎◌, ◌↔◌, ℕ, ◌<◌, ◌≤◌, ◌==◌, ◌&&◌, true, false, IsTrue, length, Contains, ◌||◌, option_map, IfOk, IfSome, MatchOption, OnOk, OnErr};
+ghost use Rattle.std.specs.Prelude.{◌≡◌, ◌⊎◌, ◌↔◌, ℕ, ◌<◌, ◌≤◌, ◌==◌, ◌&&◌, true, false, IsTrue, length, Contains, ◌||◌, IfOk, IfSome, MatchOption, OnOk, OnErr};
 ghost use Rattle.redo_model.specs.Names.{IsListed};
 ghost use Rattle.redo_model.specs.OutOfDate.{SomeAppeared, SomeChanged};
 ghost use Rattle.redo_model.specs.State.{mark_in, no_rows};
 ghost use Rattle.redo_model.specs.Renaming.{AllBelow};
-ghost use Rattle.redo_records.specs.Meaning.{row_mark_of};
 ghost use Rattle.redo_records.specs.News.{HasNewsOn, IsNews, name_of};
 ghost use Rattle.redo_records.specs.Numbers.{numbers_there};
 ghost use Rattle.redo_records.specs.Target.{Ascending};
 ghost use Rattle.redo_records.specs.Rows.{rows_count, rows_of, room_of, target_at, has_slot, with_change, with_created, with_always, without_rows, HasChangeRowOn, HasCreatedRowOn, by_number, with_rows};
 
 use crate::cell::Cell;
-use crate::mark::Mark;
 use crate::news::{News, first_news, has_news};
 use crate::numbers::{Numbers, Place};
 use crate::records::Records;
@@ -195,22 +193,6 @@ impl DepRows {
     {
         inverse::forget(&self.targets, t, &mut self.needed, &mut self.awaited);
         self.targets[t as usize].clear();
-    }
-
-    /// The mark of the change row of `t` on `n`.
-    pub fn change_of(&self, t: u32, n: u32) -> Option<Mark>
-        requires { t < rows_count self.now }
-        ensures { option_map row_mark_of result ≡ (rows_of self.now).change t n }
-    {
-        self.targets[t as usize].change_of(n)
-    }
-
-    /// Whether `t` has a created row on `n`.
-    pub fn created(&self, t: u32, n: u32) -> bool
-        requires { t < rows_count self.now }
-        ensures { result ≡ (rows_of self.now).created t n }
-    {
-        self.targets[t as usize].created(n)
     }
 
     /// Whether `t` has an always row.

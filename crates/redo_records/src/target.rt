@@ -236,26 +236,6 @@ impl Target {
         self.find(n, guess).is_some()
     }
 
-    /// The mark of the change row on the name.
-    pub fn change_of(&self, n: u32) -> Option<Mark>
-        ensures { option_map row_mark_of result ≡ (slot_at self.now.slots n).change }
-    {
-        match self.find(n, 0) {
-            Some(slot) => slot.change(),
-            None => None,
-        }
-    }
-
-    /// Whether there is a created row on the name.
-    pub fn created(&self, n: u32) -> bool
-        ensures { result ≡ (slot_at self.now.slots n).created }
-    {
-        match self.find(n, 0) {
-            Some(slot) => slot.created(),
-            None => false,
-        }
-    }
-
     /// Whether there is an always row.
     pub fn always(&self) -> bool
         ensures { result ≡ self.now.always }
