@@ -10,8 +10,7 @@ use Rattle.std.proofs.lemmas.Cmp.{nat_cmp_total, nat_list_cmp_total, tied_itself
 use Rattle.std.proofs.lemmas.List.{get_or_default}
 use Rattle.std.proofs.lemmas.List.Elements.{Contains-get_or}
 use Rattle.std.proofs.lemmas.List.Sums.{position_or_len_is}
-use Rattle.redo_model.specs.Names.{texts, text_at}
-use Rattle.redo_model.specs.Inside.Renaming.{OrdersAlike, numbering}
+use Rattle.redo_model.specs.Names.{text_at}
 use Rattle.redo_model.proofs.Texts.{texts_are_names}
 use Rattle.redo_order.specs.Orders.{AreSorted, place, by_place}
 use Rattle.redo_order.specs.Inside.Orders.{IsOrderOf}
@@ -61,9 +60,6 @@ module _ {names : List (List ℕ)} {sorted : List ℕ} (are : AreSorted names so
       let to : Contains sorted m = (are.listed.1 m).1 b in
       ap (λ (i : ℕ). nat_cmp i (place sorted m)) (place_is at.0 k at.1 at.2)
       ∙ ap (nat_cmp at.0) (place_is to.0 m to.1 to.2) ∙ by_places at.0 to.0 k m at.1 to.1 at.2 to.2
-
-  pub orders_alike : OrdersAlike (numbering names) texts (by_place sorted)
-  orders_alike = record { alike = by_place_is }
 
   -- the numbers are sorted by their own order too
   pub listed_by_place : IsOrderOf (length names) sorted

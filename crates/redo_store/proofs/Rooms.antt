@@ -5,7 +5,7 @@ use Rattle.std.specs.List.{list_all}
 use Rattle.std.proofs.lemmas.List.Elements.{All-weaker, All-contains_itself}
 use Rattle.std.proofs.lemmas.List.Sums.{list_all-from_AllPass}
 use Rattle.redo_model.specs.Command.{Command, File, Gone, Lock, Unlock, Start, IfChange, IfCreate, Always, Stamp, Done, Failed, Ood, Targets, Sources}
-use Rattle.redo_model.specs.Names.{Naming, numbers}
+use Rattle.redo_model.specs.Names.{Naming}
 use Rattle.redo_model.specs.State.{Records}
 use Rattle.redo_model.specs.Step.{verdict_of, effect_of, records_after, unless_refused}
 use Rattle.redo_store.specs.Inside.Changes.{HasEffect}
@@ -49,27 +49,6 @@ changed_accepted old new s holds command accepted changed =
     changed
     ∙ ap (λ verdict. unless_refused verdict (records_of old)
     (effect_of (naming_of old) (records_of old) s command)) (sym accepted)
-
--- a command is applied after memory was reserved for it
-module _ (old made : Stored) (same : IsSameButRoom old made) (s : ℕ) (holds : Bool)
-    (command : Command ℕ)
-    (accepted : verdict_of (naming_of old) (records_of old) s holds command ≡ None) where
-  same_naming : naming_of made ≡ naming_of old
-  same_naming = ap (λ (ns : List ℕ). numbers (by_place ns)) same.sorted
-
-  pub still_accepted : verdict_of (naming_of made) (records_of made) s true command ≡ None
-  still_accepted =
-      ap (λ (n : Naming ℕ). verdict_of n (records_of made) s true command) same_naming
-      ∙ ap (λ (r : Records ℕ). verdict_of (naming_of old) r s true command) same.records
-      ∙ accepted_of_holder (naming_of old) (records_of old) s holds command accepted
-
-  pub changed_after_room : (new : Stored) → HasEffect made new s command
-      → records_of new ≡ records_after (naming_of old) (records_of old) s holds command
-  changed_after_room new changed =
-      changed_accepted old new s holds command accepted
-      (changed
-      ∙ ap (λ (n : Naming ℕ). effect_of n (records_of made) s command) same_naming
-      ∙ ap (λ (r : Records ℕ). effect_of (naming_of old) r s command) same.records)
 
 -- an error comes with P, if P is true in any case
 pub on_err_from : {X E P : Type 0} (r : Result X E) → P → OnErr r P

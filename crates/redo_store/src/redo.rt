@@ -1,15 +1,12 @@
-ghost use Rattle.std.specs.Prelude.{◌≡◌, ◌+◌, ◌^◌, ◌<◌, length, IfOk, IsOk, IsSome, OnOk, OnErr};
-ghost use Rattle.redo_model.specs.Names.{texts, numbers};
-ghost use Rattle.redo_model.specs.State.{empty};
+ghost use Rattle.std.specs.Prelude.{◌≡◌, ◌+◌, ◌^◌, ◌<◌, IfOk, IsOk, IsSome, OnOk, OnErr};
+ghost use Rattle.redo_model.specs.Names.{numbers};
 ghost use Rattle.redo_model.specs.Command.{asked_lock};
 ghost use Rattle.redo_model.specs.Step.{Answers, after, holds_target, verdict_of};
 ghost use Rattle.redo_model.specs.Renaming.{IsBelow, IsReplyBelow};
-ghost use Rattle.redo_model.specs.Inside.Renaming.{OrdersAlike, numbering};
 ghost use Rattle.redo_terms.specs.Meaning.{command_of, reply_of};
 
 use crate::store::Store;
 use redo_marks::Bits;
-use redo_names::Names;
 use redo_terms::{Command, Reply};
 use std::alloc::{AllocError, Global};
 use std::marker::Model;
@@ -46,28 +43,6 @@ impl Model for Redo {
 
 impl Redo {
     ghost use Rattle.redo_store.specs.Tables.{state_of, tables_order, tables_count, calls_of, IsAsBefore};
-
-    /// The empty database: each name is idle, without a file, and free.
-    pub fn new(alloc: Global, names: &Names) -> Result<Redo, AllocError>
-        ensures empty { IfOk result (λ redo. state_of redo ≡ empty) }
-        ensures count { IfOk result (λ redo. tables_count redo ≡ length names.now) }
-        ensures order { IfOk result
-            (λ redo. OrdersAlike (numbering names.now) texts (tables_order redo)) }
-        ensures calls { IfOk result (λ redo. calls_of redo ≡ 0) }
-    {
-        let count = names.len();
-        let holders = vec![in alloc; None; count as usize]?;
-        let held = Bits::new(alloc, count)?;
-        let grants = vec![in alloc; 0; count as usize]?;
-        let store = Store::new(alloc, names)?;
-        Ok(Redo {
-            store,
-            holders,
-            held,
-            grants,
-            calls: 0,
-        })
-    }
 
     /// The reply to a session's command, and its change. An error changes neither the state nor the calls. A lock, or a
     /// command that is refused, gives no error.

@@ -1,19 +1,15 @@
-ghost use Rattle.std.specs.Prelude.{◌≡◌, ◌+◌, ◌^◌, ◌<◌, Some, None, length, option_map, IsTrue, IsFalse, true, false, IfOk, IsOk, IsSome, OnOk, OnErr};
-ghost use Rattle.redo_model.specs.Names.{texts};
+ghost use Rattle.std.specs.Prelude.{◌≡◌, ◌+◌, ◌^◌, ◌<◌, Some, None, option_map, IsTrue, IsFalse, true, false, IfOk, IsOk, IsSome};
 ghost use Rattle.redo_model.specs.State.{empty, is_building, target_state};
 ghost use Rattle.redo_model.specs.Command as commands;
 ghost use Rattle.redo_model.specs.Command.{asked_lock};
-ghost use Rattle.redo_model.specs.Step.{Replies, Tells, records_after, verdict_of};
+ghost use Rattle.redo_model.specs.Step.{Replies, Tells, verdict_of};
 ghost use Rattle.redo_model.specs.Renaming.{IsBelow, IsReplyBelow};
-ghost use Rattle.redo_model.specs.Inside.Renaming.{OrdersAlike, numbering};
 ghost use Rattle.redo_order.specs.Orders.{AreRanks};
 ghost use Rattle.redo_order.specs.Inside.Orders.{IsOrderOf};
 ghost use Rattle.redo_terms.specs.Meaning.{command_of, reply_of, refusal_of};
 
 use crate::table::{answer, answers, effect, effects};
-use redo_names::Names;
 use redo_ood::Ood;
-use redo_order::{ranks_of, sorted_numbers};
 use redo_records::{DepRows, Records, digest_of};
 use redo_terms::{Command, Digest, FileStamp, Refusal, Reply, cases, unboxed};
 use std::alloc::{AllocError, Global};
@@ -56,22 +52,8 @@ impl Model for Store {
 
 impl Store {
     ghost use Rattle.redo_store.specs.Inside.Changes.{HasEffect};
-    ghost use Rattle.redo_store.specs.Stored.{records_of, order_of, naming_of, count_of, applied_of, IsSameButRoom, has_room_for, lists_names};
+    ghost use Rattle.redo_store.specs.Stored.{records_of, order_of, naming_of, count_of, applied_of, has_room_for, lists_names};
     ghost use Rattle.redo_store.specs.Inside.Stored.{HasBuildsLeft, KeepsNames};
-
-    /// The empty store: each name is idle, and without a file.
-    pub fn new(alloc: Global, names: &Names) -> Result<Store, AllocError>
-        ensures empty { IfOk result (λ store. records_of store ≡ empty.records) }
-        ensures count { IfOk result (λ store. count_of store ≡ length names.now) }
-        ensures order { IfOk result (λ store. OrdersAlike (numbering names.now) texts
-            (order_of store)) }
-        ensures applied { IfOk result (λ store. applied_of store ≡ 0) }
-    {
-        let count = names.len();
-        let sorted = sorted_numbers(alloc, names)?;
-        let ranks = ranks_of(alloc, &sorted)?;
-        Store::with_order(alloc, count, sorted, ranks)
-    }
 
     /// The empty store for as many names, in this order.
     fn with_order(
@@ -123,34 +105,6 @@ impl Store {
         }
     }
 
-    /// Makes the change of a session's command, which is no lock. Reserves memory first, if it isn't reserved: an error
-    /// changes nothing but reserved memory.
-    pub fn apply(&mut self, s: u16, command: &Command, holds: bool) -> Result<(), AllocError>
-        requires numbers { IsBelow (count_of self.old) (command_of command.now) }
-        requires no_lock { asked_lock (command_of command.now) ≡ None }
-        requires applied { applied_of self.old + 1 < 2 ^ 32 }
-        ensures after { OnOk result (records_of self.new ≡ records_after (naming_of self.old)
-            (records_of self.old) s holds (command_of command.now)) }
-        ensures applied { OnOk result (applied_of self.new ≡ applied_of self.old + 1) }
-        ensures count { count_of self.new ≡ count_of self.old }
-        ensures order { order_of self.new ≡ order_of self.old }
-        ensures ok { has_room_for self.old (command_of command.now) ≡ true → IsOk result }
-
-        // A refused command reserves no memory, so it gives no error.
-        ensures refused { IsSome (verdict_of (naming_of self.old) (records_of self.old) s holds
-            (command_of command.now)) → IsOk result }
-        ensures err { OnErr result (IsSameButRoom self.old self.new) }
-    {
-        match self.refusal(s, command, holds) {
-            Some(_) => self.count_applied(),
-            None => {
-                self.make_room(command)?;
-                self.apply_accepted(s, command);
-            }
-        }
-        Ok(())
-    }
-
     /// Makes the change of a session's accepted command, for which memory is reserved. Allocates nothing.
     pub(crate) fn apply_accepted(&mut self, s: u16, command: &Command)
         requires numbers { IsBelow (count_of self.old) (command_of command.now) }
@@ -165,13 +119,6 @@ impl Store {
     {
         self.count_applied();
         self.obey(s, command);
-    }
-
-    /// How many commands were applied.
-    pub fn applied(&self) -> u32
-        ensures { result ≡ applied_of self.now }
-    {
-        self.applied
     }
 
     /// The first refusal that applies.
