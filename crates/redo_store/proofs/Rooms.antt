@@ -1,6 +1,6 @@
 -- Reserved memory, and what it leaves of the store.
-use Rattle.std.proofs.Common.{◌≡◌, ℕ, Bool, true, false, List, None, Result, Ok, Err, refl, sym, ap, ◌∙◌}
-use Rattle.std.specs.Prelude.{IsTrue, Contains, OnErr}
+use Rattle.std.proofs.Common.{◌≡◌, ℕ, Bool, true, false, List, None, sym, ap, ◌∙◌}
+use Rattle.std.specs.Prelude.{IsTrue, Contains}
 use Rattle.std.specs.List.{list_all}
 use Rattle.std.proofs.lemmas.List.Elements.{All-weaker, All-contains_itself}
 use Rattle.std.proofs.lemmas.List.Sums.{list_all-from_AllPass}
@@ -9,9 +9,7 @@ use Rattle.redo_model.specs.Names.{Naming}
 use Rattle.redo_model.specs.State.{Records}
 use Rattle.redo_model.specs.Step.{verdict_of, effect_of, records_after, unless_refused}
 use Rattle.redo_store.specs.Inside.Changes.{HasEffect}
-use Rattle.redo_order.specs.Orders.{by_place}
-use Rattle.redo_store.specs.Stored.{Stored, records_of, naming_of, IsSameButRoom}
-use Rattle.redo_store.specs.Tables.{Tables, IsAsBefore, locks_of}
+use Rattle.redo_store.specs.Stored.{Stored, records_of, naming_of}
 
 -- a test that is true for each of the names
 pub all_of_them : (test : ℕ → Bool) (ns : List ℕ) → ((n : ℕ) → Contains ns n → IsTrue (test n))
@@ -49,18 +47,3 @@ changed_accepted old new s holds command accepted changed =
     changed
     ∙ ap (λ verdict. unless_refused verdict (records_of old)
     (effect_of (naming_of old) (records_of old) s command)) (sym accepted)
-
--- an error comes with P, if P is true in any case
-pub on_err_from : {X E P : Type 0} (r : Result X E) → P → OnErr r P
-on_err_from (Ok x) p = tt
-on_err_from (Err e) p = p
-
--- more reserved memory changes nothing that callers see
-pub IsAsBefore-room : (t : Tables) (to : Stored) → IsSameButRoom t.store to
-    → IsAsBefore t (record t { store = to })
-IsAsBefore-room t to same = record {
-  state = λ i. record { records = same.records i; locks = locks_of t };
-  count = same.count;
-  order = ap by_place same.sorted;
-  calls = refl;
-}

@@ -56,8 +56,7 @@ lines_in-append first others = flat_map-append (λ (round : Round). round.lines)
 
 -- what the rounds log that come after these
 abbrev changing_in : Former → List Round → List Round → List (Line Text)
-changing_in former before since =
-    changing_from texts (state_after former before) (lines_in since)
+changing_in former before since = changing_from texts (state_after former before) (lines_in since)
 
 -- what a log begins with is one of these lines after this past
 record BeginsAs (former : Former) (before : List Round) (base : Text) : Type 0 where
