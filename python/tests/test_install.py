@@ -15,6 +15,7 @@ COPIED = [
     "redodb",
     "redodb-live",
     "VERSION",
+    "tools/proved",
     "bin",
     "completion",
     "man",
@@ -82,6 +83,7 @@ class InstallCopy(InstallTest):
                     ignore=shutil.ignore_patterns("__pycache__"),
                 )
             elif (TOP / name).exists():
+                (self.copy / name).parent.mkdir(exist_ok=True)
                 shutil.copy2(TOP / name, self.copy / name)
         self.write("copy/crates.txt", "")
         self.age("copy/crates.txt", 10)

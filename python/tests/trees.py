@@ -35,12 +35,8 @@ def has_tools(*tools: str) -> bool:
 
 def is_proved(crate: str) -> bool:
     """Whether the crate's program is proved, and no older than its sources."""
-    program = TOP / "crates" / crate / "out" / crate
-    sources = Path(f"{program}.sources")
-    if not program.exists() or not sources.exists():
-        return False
-    words = ["find", *sources.read_text().split(), "-newer", str(program), "-print", "-quit"]
-    return not subprocess.run(words, cwd=TOP, capture_output=True, check=False).stdout
+    words = [str(TOP / "tools/proved"), crate]
+    return subprocess.run(words, capture_output=True, check=False).returncode == 0
 
 
 class TreeTest(unittest.TestCase):
