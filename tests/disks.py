@@ -110,13 +110,17 @@ class Disk:
         return names
 
     def left(self, steps: Iterable[Step]) -> dict[str, bytes]:
-        """The files, if of the changes these are kept."""
+        """The files, if of the changes these are kept. A file that none changes is what was kept."""
         steps = list(steps)
-        texts = [bytearray(text) for text in self.kept]
+        texts: dict[int, bytearray] = {}
         for file, change in steps:
-            if not isinstance(change, Naming):
-                change.do(texts[file])
-        return {name: bytes(texts[file]) for name, file in self.names(steps).items()}
+            if isinstance(change, Naming):
+                continue
+            if file not in texts:
+                texts[file] = bytearray(self.kept[file])
+            change.do(texts[file])
+        return {name: bytes(texts[file]) if file in texts else self.kept[file]
+                for name, file in self.names(steps).items()}
 
     def now(self) -> dict[str, bytes]:
         """The files as all programs see them."""

@@ -90,10 +90,14 @@ class Restarts:
         self.log = folder / "image"
         self.copy, self.new = (folder / f"image.{ending}" for ending in ("damaged", "new"))
         self.known: dict[Image, Outcome] = {}
+        # the lines of outcomes, each once: they can be long
+        self.lines: dict[str, str] = {}
 
     def outcome(self, image: Image) -> Outcome:
         if image not in self.known:
-            self.known[image] = self.started(image)
+            outcome = self.started(image)
+            lines = self.lines.setdefault(outcome.lines, outcome.lines)
+            self.known[image] = outcome._replace(lines=lines)
         return self.known[image]
 
     def files(self) -> tuple[Path, ...]:
