@@ -196,7 +196,7 @@ class Calls(ServedTree):
         self.run_with(work())
 
     def test_wait_for_a_session_no_longer_than_they_may(self) -> None:
-        self.serve(idle=5)
+        self.serve(idle=60)
         clients = [self.client() for _ in range(RUNS)]
 
         async def work() -> None:

@@ -17,7 +17,7 @@ class Edited(ServedTree):
     def setUp(self) -> None:
         super().setUp()
         self.write("x", "1")
-        self.serve(idle=5)
+        self.serve(idle=60)
         self.one = self.client()
         self.ask("lock x", "start x", f"done x {plain(b'1')}", "lock none", "start none")
         self.ask("done none -")
@@ -66,7 +66,7 @@ class Edited(ServedTree):
         self.ask("look")
         self.one.close()
         self.end_servers()
-        self.serve(idle=5)
+        self.serve(idle=60)
         self.one = self.client()
         self.assertEqual(self.ask("edited"), ["edited x"])
 
@@ -85,7 +85,7 @@ class Late(ServedTree):
     def setUp(self) -> None:
         super().setUp()
         self.write("a", "1")
-        self.serve(idle=5)
+        self.serve(idle=60)
         self.one = self.client()
         self.time = os.stat(os.path.join(self.top, "a")).st_ctime_ns
 

@@ -12,7 +12,7 @@ from served import PATIENCE, ServedTree, eventually
 class Lines(ServedTree):
     def setUp(self) -> None:
         super().setUp()
-        self.server = self.serve(idle=5)
+        self.server = self.serve(idle=60)
 
     def test_are_answered_as_redodb_live_answers_them(self) -> None:
         self.assertEqual(

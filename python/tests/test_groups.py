@@ -14,7 +14,7 @@ from served import PATIENCE, ServedTree, eventually
 class Groups(ServedTree):
     def setUp(self) -> None:
         super().setUp()
-        self.serve(idle=5)
+        self.serve(idle=60)
         self.sleeper = subprocess.Popen(["sh", "-c", "sleep 100 & wait"], start_new_session=True)
         self.addCleanup(self.end_sleeper)
 

@@ -23,7 +23,7 @@ RESET = struct.pack("ii", 1, 0)
 class Hostile(ServedTree):
     def setUp(self) -> None:
         super().setUp()
-        self.server = self.serve(idle=5)
+        self.server = self.serve(idle=60)
 
     def memory(self) -> int:
         """Return the most that the server took, in KiB."""
@@ -118,7 +118,7 @@ class Hostile(ServedTree):
         soft, hard = resource.getrlimit(resource.RLIMIT_NOFILE)
         resource.setrlimit(resource.RLIMIT_NOFILE, (100, hard))
         try:
-            self.server = self.serve(idle=5)
+            self.server = self.serve(idle=60)
         finally:
             resource.setrlimit(resource.RLIMIT_NOFILE, (soft, hard))
         clients = [self.client() for _ in range(50)]
@@ -158,7 +158,9 @@ class Hostile(ServedTree):
         self.assertRegex(self.client().talk("1 lock a")[0], r"\A1 granted 1\Z")
 
     def test_clients_that_end_in_the_middle_leave_nothing(self) -> None:
+        first = self.client()  # the server has opened all that it keeps
         before = len(self.files(self.server.pid))
+        first.close()
         texts = [b"", b"1", b"1 lock a", b"1 lock a\n", b"1 lock a\n2 start a\n3 wait b a\n4 look"]
         texts += [b"0 quest", b"0 question\n1 turn\n", b"1 ood\n" * 2000, b"1 wait a -\n" * 100]
         for turn in range(300):
@@ -170,8 +172,9 @@ class Hostile(ServedTree):
         client = self.raw()
         self.assertRegex(client.line(), r"\Asession [0-9]+\Z")
         self.assertTrue(eventually(lambda: client.talk("1 lock a")[0].startswith("1 granted ")))
-        client.close()
         self.assertTrue(eventually(lambda: len(self.files(self.server.pid)) <= before))
+        self.assertIsNone(self.server.poll())
+        client.close()
         self.assertEqual(self.client().talk("1 state b"), ["1 idle lock - file -"])
 
     def test_what_was_sent_before_an_end_is_answered(self) -> None:

@@ -11,7 +11,7 @@ from served import ServedTree
 class Looking(ServedTree):
     def setUp(self) -> None:
         super().setUp()
-        self.serve(idle=5)
+        self.serve(idle=60)
         self.one = self.client()
 
     def stamp(self, name: str) -> str:
@@ -75,7 +75,7 @@ class Looking(ServedTree):
         )
         self.one.close()
         self.end_servers()
-        self.serve(idle=5)
+        self.serve(idle=60)
         self.assertEqual(self.client().talk("1 made a", "2 made b"), ["1 made 1", "2 made -"])
 
     def test_at_some_names_leaves_the_others(self) -> None:
@@ -154,7 +154,7 @@ class Looking(ServedTree):
         self.servers.clear()
         self.use_top(os.path.join(self.top, "top"))
         self.assertNotEqual(inner.top, self.places.top)
-        self.serve(idle=5)
+        self.serve(idle=60)
         self.one = self.client()
         self.assertEqual(self.one.talk("1 look . in link ../beside .."), ["1 ok 5"])
         self.assertEqual(self.state(".."), "idle lock - file folder")
@@ -251,7 +251,7 @@ class AfterARestart(ServedTree):
         self.write("changed", "22")
         os.unlink(os.path.join(self.top, "gone"))
         self.write("half", "1")
-        self.serve(idle=5)
+        self.serve(idle=60)
         client = self.client()
         self.assertEqual(client.talk("1 look", "2 state same")[0], "1 ok 4")
         self.assertEqual(

@@ -13,7 +13,7 @@ class LookingAgain(ServedTree):
 
     def setUp(self) -> None:
         super().setUp()
-        self.serve(idle=5)
+        self.serve(idle=60)
         self.one = self.client()
         self.write("d/beside", "beside")
         self.write("d/file", "12345")
@@ -176,7 +176,7 @@ class Many(ServedTree):
         self.names = [f"d{number // 100}/f{number}" for number in range(self.COUNT)]
         for name in self.names:
             self.write(name, "x" * self.BYTES)
-        self.serve(idle=5)
+        self.serve(idle=60)
         self.one = self.client()
         names = " ".join(self.names)
         self.assertEqual(self.one.talk("1 look " + names), [f"1 ok {self.COUNT}"])
@@ -218,7 +218,7 @@ class Many(ServedTree):
     def test_reads_nothing_after_a_restart(self) -> None:
         self.one.close()
         self.end_servers()
-        self.serve(idle=5)
+        self.serve(idle=60)
         self.one = self.client()
         count, _, read = self.look()
         self.assertEqual(count, "0")

@@ -14,18 +14,18 @@ from served import PATIENCE, RUNS, Raw, ServedTree, eventually, server_or_skip
 
 class Place(ServedTree):
     def test_is_the_owners_alone(self) -> None:
-        self.serve(idle=5)
+        self.serve(idle=60)
         self.assertEqual(os.stat(self.places.server).st_mode & 0o777, 0o700)
         self.assertEqual(os.stat(self.places.socket).st_mode & 0o777, 0o600)
 
     def test_makes_a_folder_private_that_was_not(self) -> None:
         os.makedirs(self.places.server, 0o755)
         os.chmod(self.places.server, 0o755)
-        self.serve(idle=5)
+        self.serve(idle=60)
         self.assertEqual(os.stat(self.places.server).st_mode & 0o777, 0o700)
 
     def test_a_second_server_ends_at_once(self) -> None:
-        first = self.serve(idle=5)
+        first = self.serve(idle=60)
         client = self.client()
         second = self.serve()
         self.assertEqual(second.wait(PATIENCE), 0)
@@ -40,7 +40,7 @@ class Place(ServedTree):
         first.wait(PATIENCE)
         self.assertTrue(os.path.exists(self.places.socket))
         self.assertEqual(client.line(), "")
-        second = self.serve(idle=5)
+        second = self.serve(idle=60)
         self.assertTrue(eventually(self.is_listening))
         self.assertEqual(
             self.client().talk("1 state a", "2 lock a"), ["1 failed lock - file -", "2 granted 2"]
@@ -50,7 +50,7 @@ class Place(ServedTree):
     def test_a_file_in_the_place_of_the_socket_is_replaced(self) -> None:
         self.places.make()
         Path(os.fsdecode(self.places.socket)).write_text("no socket")
-        self.serve(idle=5)
+        self.serve(idle=60)
         self.assertTrue(eventually(self.is_listening))
         self.assertEqual(self.client().talk("1 lock a"), ["1 granted 1"])
 
@@ -65,7 +65,7 @@ class Place(ServedTree):
 
 class Sessions(ServedTree):
     def test_are_so_many_and_more_wait_their_turn(self) -> None:
-        self.serve(idle=5)
+        self.serve(idle=60)
         clients = [self.raw() for _ in range(RUNS)]
         self.assertEqual(
             [client.line() for client in clients], [f"session {n}" for n in range(1, RUNS + 1)]
@@ -81,7 +81,7 @@ class Sessions(ServedTree):
         self.assertEqual(third.line(), "session 8")
 
     def test_end_with_their_connection(self) -> None:
-        self.serve(idle=5)
+        self.serve(idle=60)
         watcher, one = self.client(), self.client()
         self.assertEqual(
             one.talk("1 lock a", "2 start a", "3 lock b"), ["1 granted 1", "2 ok", "3 granted 1"]
@@ -92,7 +92,7 @@ class Sessions(ServedTree):
         self.assertEqual(watcher.talk("2 state a"), ["2 failed lock - file -"])
 
     def test_end_where_a_client_is_killed(self) -> None:
-        self.serve(idle=5)
+        self.serve(idle=60)
         watcher = self.client()
         program = (
             "import sys, time; from redodb import Client; c = Client(sys.argv[1]); "
@@ -110,7 +110,7 @@ class Sessions(ServedTree):
         self.assertEqual(watcher.talk("2 state a"), ["2 failed lock 1 file -"])
 
     def test_end_by_end_and_go_on(self) -> None:
-        self.serve(idle=5)
+        self.serve(idle=60)
         one, two = self.client(), self.client()
         self.assertEqual(
             one.talk("1 lock a", "2 start a", "3 lock b"), ["1 granted 1", "2 ok", "3 granted 1"]
@@ -136,7 +136,7 @@ class Sessions(ServedTree):
         server.kill()
         server.wait(PATIENCE)
         os.unlink(self.places.socket)
-        self.serve(idle=5)
+        self.serve(idle=60)
         self.assertEqual(self.client().talk("1 state a"), ["1 failed lock - file -"])
 
 
@@ -153,7 +153,7 @@ class Questions(ServedTree):
 
     def test_are_answered_while_all_sessions_are_taken(self) -> None:
         self.write("a")
-        self.serve(idle=5)
+        self.serve(idle=60)
         clients = [self.client() for _ in range(RUNS)]
         self.assertEqual(clients[0].talk("1 lock b", "2 look a"), ["1 granted 1", "2 ok 1"])
         waiting = self.raw()
@@ -169,7 +169,7 @@ class Questions(ServedTree):
         self.assertTrue(waiting.is_silent())
 
     def test_need_no_session_and_what_needs_one_is_refused(self) -> None:
-        self.serve(idle=5)
+        self.serve(idle=60)
         asker = self.asker()
         for request in (
             *("lock a", "unlock a", "start a", "ifchange a b", "ifcreate a b", "always a"),
@@ -181,7 +181,7 @@ class Questions(ServedTree):
         self.assertEqual(self.client().talk("1 state a"), ["1 idle lock - file -"])
 
     def test_may_be_followed_by_a_session(self) -> None:
-        self.serve(idle=5)
+        self.serve(idle=60)
         asker, client = self.asker(), self.client()
         self.assertEqual(
             asker.talk("1 lock a", "2 session", "3 lock a", "4 session", "5 turn", "6 state a"),
@@ -199,7 +199,7 @@ class Questions(ServedTree):
         self.assertEqual(client.line(), "1 granted 2")
 
     def test_may_be_followed_by_a_wait_for_a_session(self) -> None:
-        self.serve(idle=5)
+        self.serve(idle=60)
         clients = [self.client() for _ in range(RUNS)]
         first, second, third = self.asker(), self.asker(), self.asker()
         for asker in (first, second, third):
@@ -214,7 +214,7 @@ class Questions(ServedTree):
         self.assertEqual(third.lines(3), ["2 session 6", "3 granted 2", "4 ok"])
 
     def test_give_back_a_session_that_was_given_before_they_spoke(self) -> None:
-        self.serve(idle=5)
+        self.serve(idle=60)
         late = self.client()
         clients = [self.client() for _ in range(RUNS - 1)]
         waiting = self.raw()
@@ -225,7 +225,7 @@ class Questions(ServedTree):
         self.assertEqual(clients[0].talk("0 question")[0].split()[0], "session")
 
     def test_are_a_first_line_alone(self) -> None:
-        self.serve(idle=5)
+        self.serve(idle=60)
         client = self.client()
         self.assertEqual(client.talk("1 lock a", "0 question")[0], "1 granted 1")
         self.assertEqual(client.talk("2 state a"), ["2 idle lock 1 file -"])
@@ -235,7 +235,7 @@ class Idlers(ServedTree):
     """Clients that say nothing, or half of it, hold nobody up."""
 
     def test_hold_nobody_up(self) -> None:
-        self.serve(idle=5)
+        self.serve(idle=60)
         silent, half, longer, halved = (self.raw() for _ in range(4))
         half.socket.sendall(b"1 lock")
         longer.socket.sendall(b"0 question")

@@ -63,7 +63,7 @@ class End(ServedTree):
         for client in clients:
             self.assertEqual(client.lines(2), ["0 failed redodb-live ended with signal 9", ""])
         self.assertEqual(server.wait(PATIENCE), 1)
-        self.serve(idle=5)
+        self.serve(idle=60)
         self.assertEqual(self.client().talk("1 lock a"), ["1 granted 1"])
 
     def test_of_redodb_live_while_nobody_is_there_is_told_to_nobody(self) -> None:
@@ -76,7 +76,7 @@ class End(ServedTree):
         children = Path(f"/proc/{server.pid}/task/{server.pid}/children").read_text().split()
         os.kill(int(children[0]), signal.SIGKILL)
         self.assertEqual(server.wait(PATIENCE), 1)
-        self.serve(idle=5)
+        self.serve(idle=60)
         self.assertEqual(self.client().talk("1 lock a"), ["1 granted 2"])
 
     def test_by_a_damaged_log_is_told_and_the_log_stays(self) -> None:
@@ -122,7 +122,7 @@ class End(ServedTree):
         self.assertRegex(line, r"\A0 failed redodb-live: \S+/log: write\Z")
         self.assertEqual(two.line(), line)
         self.assertEqual(server.wait(PATIENCE), 1)
-        self.serve(idle=5)
+        self.serve(idle=60)
         self.assertGreater(answered, 3)
         self.assertEqual(
             self.client().talk(f"1 state name{answered - 1}"), ["1 idle lock - file 1"]
@@ -147,7 +147,7 @@ class End(ServedTree):
         ) as other:
             assert other.stdin is not None and other.stdout is not None
             self.assertTrue(other.stdout.readline().startswith(b"redodb-live "))
-            self.serve(idle=5)
+            self.serve(idle=60)
             client = self.raw()
             self.assertTrue(client.is_silent(0.3))
             other.stdin.close()

@@ -40,7 +40,7 @@ class Together(ServedTree):
     """Builders that are killed at random: never have two of them a lock at once."""
 
     def test_builders_exclude_each_other(self) -> None:
-        self.serve(idle=5)
+        self.serve(idle=60)
         watcher = self.client()
         folder = os.path.join(self.top, "held")
         os.mkdir(folder)
@@ -61,7 +61,7 @@ class Together(ServedTree):
         self.assertGreater(len(self.log()), 100)
         self.end_servers()
         self.servers.clear()
-        self.serve(idle=5)
+        self.serve(idle=60)
         self.assertRegex(self.client().talk("1 state t0")[0], r"\A1 (built|failed) lock - file ")
 
     def check_history(self, lines: list[str]) -> None:

@@ -9,7 +9,7 @@ from served import Raw, ServedTree, eventually
 class Waiting(ServedTree):
     def setUp(self) -> None:
         super().setUp()
-        self.serve(idle=5)
+        self.serve(idle=60)
 
     def test_for_a_free_lock_is_granted_at_once(self) -> None:
         self.assertEqual(
@@ -105,7 +105,7 @@ class Waiting(ServedTree):
 class Rings(ServedTree):
     def setUp(self) -> None:
         super().setUp()
-        self.serve(idle=5)
+        self.serve(idle=60)
 
     def parked(self, client: Raw, line: str) -> None:
         client.send(line)
@@ -191,7 +191,7 @@ class Rings(ServedTree):
 class Forgetting(ServedTree):
     def setUp(self) -> None:
         super().setUp()
-        self.serve(idle=5)
+        self.serve(idle=60)
 
     def test_gives_the_place_to_the_next(self) -> None:
         one, two, three = self.client(), self.client(), self.client()
