@@ -5,8 +5,9 @@ use Rattle.std.specs.Cmp.{tied_itself}
 use Rattle.std.specs.declared.cmp.Ordering.{Ordering}
 use Rattle.std.specs.declared.cmp.Ordering.TheVariants.{Less}
 use Rattle.std.proofs.lemmas.Cmp.{nat_cmp_total, on_total}
+use Rattle.std.specs.Ordering.{nat_cmp}
 use Rattle.redo_names.specs.Inside.Names.{AreNames, Extends}
-use Rattle.redo_model.specs.Names.{Text, texts, numbers, text_at}
+use Rattle.redo_model.specs.Names.{Text, texts, numbers, text_at, by_number}
 use Rattle.redo_model.specs.State.{State}
 use Rattle.redo_model.specs.Command.{Command, names_in}
 use Rattle.redo_model.specs.Reply.{Reply}
@@ -18,8 +19,7 @@ use Rattle.redo_model.proofs.Naming.{numbering_is_renaming}
 use Rattle.redo_model.proofs.RepliesByName.{one_number}
 use Rattle.redo_model.proofs.AnswersByName.{answers_by_name}
 use Rattle.redo_terms.specs.Meaning.{by_text}
-use Rattle.redo_order.specs.Orders.{by_place, place}
-use Rattle.redo_store.specs.Tables.{Tables, tables_order, state_of}
+use Rattle.redo_store.specs.Tables.{Tables, state_of}
 use Rattle.redo_live.specs.Inside.Ordered.{IsSortedReply}
 use Rattle.redo_live.specs.Inside.Within.{IsStateWithin}
 use Rattle.redo_live.proofs.Within.{IsReplyBelow-answers}
@@ -33,9 +33,8 @@ all_below_more a b (n ∷ ns) few below = (omega (arith, below.0), all_below_mor
 pub below_more : (a b : ℕ) (command : Command ℕ) → a ≤ b → IsBelow a command → IsBelow b command
 below_more a b command few below = all_below_more a b (names_in command) few below
 
-place_is_strict : (sorted : List ℕ) (n : ℕ) → by_place sorted n n ≢ Less
-unfolding by_place
-place_is_strict sorted n e = let f = tied_itself nat_cmp_total (place sorted n) in cc
+pub number_is_strict : (n : ℕ) → nat_cmp n n ≢ Less
+number_is_strict n e = let f = tied_itself nat_cmp_total n in cc
 
 pub renaming : (names : List Text) → AreNames names → IsRenaming (numbering names)
 renaming names are = numbering_is_renaming names are.distinct
@@ -55,15 +54,14 @@ module _ (names : List Text) (are : AreNames names) where
 
   module _ (tables : Tables) (within : IsStateWithin (length names) (state_of tables)) (session : ℕ)
       (command : Command ℕ) (below : IsBelow (length names) command) (reply now : Reply ℕ)
-      (answers : Answers (numbers (tables_order tables)) (state_of tables) session command reply)
+      (answers : Answers by_number (state_of tables) session command reply)
       (sorted : IsSortedReply (by_text names).order reply now)
     where
       by_texts : Answers (numbers (by_text names).order) (state_of tables) session command now
       by_texts =
-          answers_again (length names) (tables_order tables) (by_text names).order
-          (orders (tables_order tables) (place_is_strict tables.store.sorted))
-          (state_of tables) session command reply now within.records below
-          answers sorted
+          answers_again (length names) nat_cmp (by_text names).order
+          (orders nat_cmp number_is_strict) (state_of tables) session command reply now
+          within.records below answers sorted
 
       pub now_below : IsReplyBelow (length names) now
       now_below =

@@ -32,8 +32,7 @@ use Rattle.redo_live.specs.Answers.{Standing}
 use Rattle.redo_live.specs.Inside.Asked.{why_at}
 use Rattle.redo_live.specs.Inside.Ordered.{AreSortedAgain}
 use Rattle.redo_live.specs.Inside.Within.{IsStateWithin}
-use Rattle.redo_live.proofs.Answering.{renaming, orders, alike}
-use Rattle.redo_live.proofs.Ending.{number_is_strict}
+use Rattle.redo_live.proofs.Answering.{renaming, number_is_strict, orders, alike}
 use Rattle.redo_live.proofs.Lines.{all_of}
 use Rattle.redo_live.proofs.Reordered.{listed_again}
 

@@ -1,7 +1,8 @@
 -- A call over the names that its numbers stand for.
 use Rattle.std.proofs.Common.{◌≡◌, ◌+◌, ◌*◌, ◌^◌, ◌<◌, arith, ℕ, List, ap, ◌∙◌, sym, subst, length}
+use Rattle.std.specs.Ordering.{nat_cmp}
 use Rattle.redo_names.specs.Inside.Names.{AreNames}
-use Rattle.redo_model.specs.Names.{Text, texts, text_at}
+use Rattle.redo_model.specs.Names.{Text, texts, text_at, by_number}
 use Rattle.redo_model.specs.State.{State}
 use Rattle.redo_model.specs.Command.{Command}
 use Rattle.redo_model.specs.Reply.{Reply}
@@ -11,8 +12,7 @@ use Rattle.redo_model.specs.Inside.Renaming.{named_state, numbering}
 use Rattle.redo_model.proofs.StepsByName.{after_by_name}
 use Rattle.redo_model.proofs.Texts.{texts_are_names}
 use Rattle.redo_terms.specs.Meaning.{by_text}
-use Rattle.redo_store.specs.Tables.{Tables, state_of, tables_order, calls_of}
-use Rattle.redo_store.specs.Inside.Tables.{tables_naming}
+use Rattle.redo_store.specs.Tables.{Tables, state_of, calls_of}
 use Rattle.redo_live.specs.Inside.LiveState.{LiveState, state_in, calls_in, HasCallsLeft, IsSameDatabase}
 use Rattle.redo_live.specs.Inside.Kept.{IsKept}
 use Rattle.redo_live.specs.Inside.Ordered.{IsSortedReply}
@@ -24,9 +24,9 @@ module _ (old mid : LiveState) (names : List Text) (tables next : Tables)
     (known : IsSameDatabase old mid) (old_are : AreNames old.names)
     (kept : IsKept names (state_of tables) (calls_of tables)) (session : ℕ) (command : Command ℕ)
     (old_below : IsBelow (length old.names) command) (reply now : Reply ℕ)
-    (answers : Answers (tables_naming tables) (state_of tables) session command reply)
+    (answers : Answers by_number (state_of tables) session command reply)
     (sorted : IsSortedReply (by_text names).order reply now)
-    (steps : state_of next ≡ after (tables_naming tables) (state_of tables) session command)
+    (steps : state_of next ≡ after by_number (state_of tables) session command)
   where
     same : names ≡ old.names
     same = ap (λ (live : LiveState). live.names) is ∙ old_names
@@ -68,8 +68,8 @@ module _ (old mid : LiveState) (names : List Text) (tables next : Tables)
     unfolding here
     called_after =
         ap (named_state (numbering names)) steps
-        ∙ after_by_name (renaming names are) texts texts_are_names (tables_order tables)
-        (state_of tables) session command below
+        ∙ after_by_name (renaming names are) texts texts_are_names nat_cmp (state_of tables) session
+        command below
         ∙ (λ i. after texts (is_old i) session (named_command (text_at (same i)) command))
 
     pub called_keeps : HasCallsLeft old → calls_of next ≡ calls_of tables + 1
@@ -79,5 +79,5 @@ module _ (old mid : LiveState) (names : List Text) (tables next : Tables)
         let left : calls_of tables + 1 + 2 * length names < 2 ^ 32 =
         omega (arith, few, ap calls_in is ∙ known.calls, ap length same) in
         subst (λ (at : State ℕ × ℕ). IsKept names at.0 at.1) (λ i. (sym steps i, sym counted i))
-        (IsKept-after names are (tables_order tables) (state_of tables) session command
+        (IsKept-after names are nat_cmp (state_of tables) session command
         (named_reply (text_at names) now) (calls_of tables) left below kept here_answers)

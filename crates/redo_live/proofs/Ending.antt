@@ -7,14 +7,13 @@ use Rattle.std.specs.Cmp.{nat_cmp_is, tied_itself}
 use Rattle.std.specs.Cmp.Lexicographic.{nat_list_cmp_total}
 use Rattle.std.specs.Ordering.{nat_cmp}
 use Rattle.std.specs.declared.cmp.Ordering.TheVariants.{Less}
-use Rattle.std.proofs.lemmas.Cmp.{nat_cmp_total}
 use Rattle.std.proofs.lemmas.List.{length-map}
 use Rattle.std.proofs.lemmas.List.Elements.{All-contains, All-from_recursion}
 use Rattle.std.proofs.lemmas.List.Kept.{AllPairs-from_increasing}
 use Rattle.std.proofs.lemmas.List.Sorted.{Contains-permutation, IsPermutation-sym}
 use Rattle.std.proofs.lemmas.Simd.{map-map}
 use Rattle.redo_names.specs.Inside.Names.{AreNames}
-use Rattle.redo_model.specs.Names.{Text, texts, text_at}
+use Rattle.redo_model.specs.Names.{Text, texts, text_at, by_number}
 use Rattle.redo_model.specs.State.{State}
 use Rattle.redo_model.specs.Reply as replies
 use Rattle.redo_model.specs.History.{LegalFrom, left_by}
@@ -26,8 +25,7 @@ use Rattle.redo_model.proofs.RecordsByName.{value_at_name}
 use Rattle.redo_model.proofs.RepliesByName.{Carries, listing}
 use Rattle.redo_terms.specs.Meaning.{by_text, command_of, line_of, line_at}
 use Rattle.redo_terms.specs.declared.reply.Line.{Line}
-use Rattle.redo_store.specs.Tables.{Tables, state_of, tables_count, tables_order, calls_of}
-use Rattle.redo_store.specs.Inside.Tables.{tables_naming}
+use Rattle.redo_store.specs.Tables.{Tables, state_of, tables_count, calls_of}
 use Rattle.redo_history.specs.Histories.{line_text_of}
 use Rattle.redo_history.specs.Recorded.{AreLinesBelow}
 use Rattle.redo_live.specs.Inside.Ended.{end_text}
@@ -37,14 +35,11 @@ use Rattle.redo_live.specs.Inside.Ordered.{AreSortedAgain}
 use Rattle.redo_live.specs.Inside.Told.{EndsSession}
 use Rattle.redo_live.specs.Inside.Withheld.{WouldEnd}
 use Rattle.redo_live.specs.Inside.Within.{IsStateWithin}
-use Rattle.redo_live.proofs.Answering.{renaming, orders, alike}
+use Rattle.redo_live.proofs.Answering.{renaming, number_is_strict, orders, alike}
 use Rattle.redo_live.proofs.Closing.{all_closing, closing_by_name, few_lines, kept_then, left_texts, legal_numbers, lines_below}
 use Rattle.redo_live.proofs.Keeping.{taken_below}
 use Rattle.redo_live.proofs.Lines.{all_from_map, all_of}
 use Rattle.redo_live.proofs.Reordered.{ascending_once, listed_again}
-
-pub number_is_strict : (n : ℕ) → nat_cmp n n ≢ Less
-number_is_strict n e = let f = tied_itself nat_cmp_total n in cc
 
 pub text_is_strict : (names : List Text) (n : ℕ) → (by_text names).order n n ≢ Less
 text_is_strict names n e = let f = tied_itself nat_list_cmp_total (text_at names n) in cc
@@ -182,11 +177,11 @@ module _ (names : List Text) (are : AreNames names) (tables : Tables)
               (λ t there. ap (λ (o : Option ℕ). is_some o) (mine t there)),
         )
 
-    pub close_legal : LegalFrom (tables_naming tables) (state_of tables) (map line_of lines)
+    pub close_legal : LegalFrom by_number (state_of tables) (map line_of lines)
     close_legal =
-        subst (LegalFrom (tables_naming tables) (state_of tables)) (sym closing.lines_are)
+        subst (LegalFrom by_number (state_of tables)) (sym closing.lines_are)
         (legal_numbers names are (state_of tables) session kept.within kept.builders
-        closing.targets below_names held_texts (tables_order tables))
+        closing.targets below_names held_texts nat_cmp)
 
     named_lines : map (line_at names) lines
         ≡ closing_lines_of session (named_state (numbering names) (state_of tables))
@@ -210,21 +205,19 @@ module _ (names : List Text) (are : AreNames names) (tables : Tables)
     }
 
     module _ (next : Tables)
-        (left : state_of next
-        ≡ left_by (tables_naming tables) (state_of tables) (map line_of lines))
+        (left : state_of next ≡ left_by by_number (state_of tables) (map line_of lines))
         (counted : calls_of next ≡ calls_of tables + length lines)
       where
-        left_closing : state_of next ≡ left_by (tables_naming tables) (state_of tables)
+        left_closing : state_of next ≡ left_by by_number (state_of tables)
             (closing_lines_of session (state_of tables) closing.targets)
-        left_closing =
-            left ∙ ap (left_by (tables_naming tables) (state_of tables)) closing.lines_are
+        left_closing = left ∙ ap (left_by by_number (state_of tables)) closing.lines_are
 
         pub kept_end : IsKept names (state_of next) (calls_of next)
         kept_end =
             subst (IsKept names (state_of next))
             (sym (counted ∙ ap (λ (n : ℕ). calls_of tables + n) same_length))
             (kept_then names are (state_of tables) session kept.within kept.builders
-            closing.targets below_names held_texts (tables_order tables) (state_of next)
+            closing.targets below_names held_texts nat_cmp (state_of next)
             left_closing (calls_of tables) kept once mine)
 
         pub ends : (said said_after logged logged_after : Text)
@@ -242,7 +235,7 @@ module _ (names : List Text) (are : AreNames names) (tables : Tables)
                 lines_are = named_lines;
                 left = ap (named_state (numbering names)) left_closing
                     ∙ left_texts names are (state_of tables) session kept.within kept.builders
-                    closing.targets below_names held_texts (tables_order tables)
+                    closing.targets below_names held_texts nat_cmp
                     ∙ ap (left_by texts (named_state (numbering names) (state_of tables)))
                     (sym named_lines);
               };

@@ -1,7 +1,8 @@
 -- The line of the answer answers a session's command.
 use Rattle.std.proofs.Common.{◌≡◌, ◌+◌, ◌*◌, ◌^◌, ◌<◌, ◌⊎◌, inl, inr, ℕ, Bool, cond, List, [], ◌∷◌, ◌++◌, refl, sym, ap, ◌∙◌, subst, length}
+use Rattle.std.specs.Ordering.{nat_cmp}
 use Rattle.redo_names.specs.Inside.Names.{AreNames}
-use Rattle.redo_model.specs.Names.{Text, texts, text_at}
+use Rattle.redo_model.specs.Names.{Text, texts, text_at, by_number}
 use Rattle.redo_model.specs.State.{State}
 use Rattle.redo_model.specs.Command.{Command}
 use Rattle.redo_model.specs.Step.{Answers, after}
@@ -14,8 +15,7 @@ use Rattle.redo_terms.specs.Meaning.{command_of, reply_of, line_at, by_text}
 use Rattle.redo_terms.specs.declared.reply.Line.{Line}
 use Rattle.redo_terms.specs.declared.reply.Reply.{Reply}
 use Rattle.redo_text.specs.Grammar.{IsCommandLine, AddsNames}
-use Rattle.redo_store.specs.Tables.{Tables, state_of, tables_records, tables_order, calls_of}
-use Rattle.redo_store.specs.Inside.Tables.{tables_naming}
+use Rattle.redo_store.specs.Tables.{Tables, state_of, tables_records, calls_of}
 use Rattle.redo_live.specs.Inside.Answered.{logged_text}
 use Rattle.redo_live.specs.Inside.LiveState.{LiveState, state_in, calls_in, IsSameDatabase}
 use Rattle.redo_live.specs.Inside.Kept.{IsKept}
@@ -89,20 +89,19 @@ module _ (names : List Text) (are : AreNames names) (tables : Tables)
 
     module _ (next : Tables)
         (steps : state_of next
-        ≡ after (tables_naming tables) (state_of tables) session (command_of told.command))
+        ≡ after by_number (state_of tables) session (command_of told.command))
         (counted : calls_of next ≡ calls_of tables + 1)
       where
-        same_step : state_of next ≡ after (tables_naming tables) (state_of tables) session command
+        same_step : state_of next ≡ after by_number (state_of tables) session command
         same_step =
-            steps ∙ ap (after (tables_naming tables) (state_of tables) session) is.command_is
+            steps ∙ ap (after by_number (state_of tables) session) is.command_is
 
         pub kept_after : calls_of tables + 1 + 2 * length names < 2 ^ 32
             → IsKept names (state_of next) (calls_of next)
         kept_after left =
             subst (λ (st : State ℕ). IsKept names st (calls_of next)) (sym same_step)
-            (subst (IsKept names (after (tables_naming tables) (state_of tables) session command))
-            (sym counted)
-            (IsKept-after names are (tables_order tables) (state_of tables) session command
+            (subst (IsKept names (after by_number (state_of tables) session command)) (sym counted)
+            (IsKept-after names are nat_cmp (state_of tables) session command
             (named_reply (text_at names) (reply_of told.reply)) (calls_of tables) left below
             kept told_answers))
 
@@ -132,7 +131,7 @@ module _ (names : List Text) (are : AreNames names) (tables : Tables)
               command_is = told_command old old_names old_state;
               answers = told_there old old_names old_state;
               after_is = ap (named_state (numbering names)) steps
-                  ∙ after_by_name (renaming names are) texts texts_are_names (tables_order tables)
+                  ∙ after_by_name (renaming names are) texts texts_are_names nat_cmp
                   (state_of tables) session (command_of told.command) asked_below
                   ∙ ap (λ (st : State Text). after texts st session line.command) same;
               told = record {

@@ -1,4 +1,5 @@
 ghost use Rattle.std.specs.Prelude.{◌≡◌, ◌↔◌, ◌≤◌, ◌<◌, ◌+◌, ◌^◌, [], ◌∷◌, None, length, IfOk, IfErr, OnOk, OnErr, true};
+ghost use Rattle.redo_model.specs.Names.{by_number};
 ghost use Rattle.redo_names.specs.Inside.Names.{Extends, AreNames};
 ghost use Rattle.redo_model.specs.State.{empty};
 ghost use Rattle.redo_model.specs.Renaming.{IsBelow};
@@ -9,7 +10,6 @@ ghost use Rattle.redo_text.specs.Grammar.{IsCommandLine, AddsNames};
 ghost use Rattle.redo_text.specs.Questions.{line_fault};
 ghost use Rattle.redo_store.specs.Stored.{has_room_for};
 ghost use Rattle.redo_store.specs.Tables.{state_of, tables_count};
-ghost use Rattle.redo_store.specs.Inside.Tables.{tables_naming};
 
 use crate::fault::{Unanswered, Withheld};
 use crate::told::{answered, line_text, tell_within, text_if};
@@ -309,8 +309,8 @@ impl Live {
         ensures count { OnOk result (length self.new.names ≤ tables_count self.new.tables) }
         ensures room { OnOk result
             (has_room_for self.new.tables.store (command_of command.now) ≡ true) }
-        ensures answers { IfOk result (λ reply. Answers (tables_naming self.new.tables)
-            (state_of self.new.tables) session (command_of command.now) (reply_of reply)) }
+        ensures answers { IfOk result (λ reply. Answers by_number (state_of self.new.tables)
+            session (command_of command.now) (reply_of reply)) }
     {
         self.make_room(command)?;
         self.redo.reply(alloc, session, command)

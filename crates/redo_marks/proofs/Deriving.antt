@@ -12,9 +12,9 @@ use Rattle.redo_model.proofs.Members.{contains_first, contains_cases, contains_n
 use Rattle.redo_model.proofs.Region.{differ_nowhere, differ_then, out_of_date_by_step, as_before_outside, was_out_of_date, derived_along}
 use Rattle.redo_model.proofs.UpToDate.{idle_up_to_date}
 use Rattle.redo_model.proofs.MorePlaces.{same_everywhere}
-use Rattle.redo_marks.specs.NameSet.{Marked, IsMarked, IsQueued, IsQueue, Enters, Grows, Unmarks, size_of}
+use Rattle.redo_marks.specs.NameSet.{Marked, IsMarked, IsQueued, Enters, Grows, Unmarks, size_of}
 use Rattle.redo_marks.specs.Inside.NameSet.{MarksOnly, IsCleared}
-use Rattle.redo_marks.specs.Memo.{is_out, IsRight, WasRight, HasCount}
+use Rattle.redo_marks.specs.Memo.{is_out, IsRight, WasRight}
 use Rattle.redo_marks.specs.Inside.Regions.{Spreads, IsDue, IsClosed, IsSound, EntersDue}
 use Rattle.redo_model.proofs.Listing.{listed_or_not, one_more}
 use Rattle.redo_marks.proofs.Marking.{prefix_of, grows_then, marked_or_not}
@@ -231,10 +231,3 @@ cleared_again names sized held unmarked = record {
       was.1 (held.marked t was.0);
   empty = unmarked.none;
 }
-
--- the list of the region has as many names as the region
-pub region_counted : (r : Records ℕ) (seeds ns : List ℕ) {region : Marked} → ns ≡ region.queue
-    → MarksOnly (InRegion r seeds) region → IsQueue region → HasCount (InRegion r seeds) (length ns)
-region_counted r seeds ns {region = region} same is kept =
-    let size : length region.queue ≡ length ns = ap length (sym same) in
-    subst (HasCount (InRegion r seeds)) size (region.queue, kept.once, is.queued, refl)

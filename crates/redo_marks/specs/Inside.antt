@@ -3,3 +3,4 @@ pub mod NameSet
 pub mod Regions
 pub mod KeptNames
 pub mod KeptBits
+pub mod KeptMemo

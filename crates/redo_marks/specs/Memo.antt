@@ -1,5 +1,5 @@
 -- What a memo says of the names.
-use Rattle.std.specs.Prelude.{◌≡◌, ◌≢◌, ◌↔◌, ℕ, Bool, false, List, IsTrue, AllPairs, Contains, slice_index_or, length}
+use Rattle.std.specs.Prelude.{◌↔◌, ℕ, Bool, false, List, IsTrue, slice_index_or, length}
 use Rattle.redo_model.specs.State.{Records}
 use Rattle.redo_model.specs.OutOfDate.{OutOfDate}
 use Rattle.redo_model.specs.Inside.OutOfDate.{DifferAt}
@@ -20,9 +20,3 @@ IsRight memo records = (t : ℕ) → IsTrue (is_out memo t) ↔ OutOfDate record
 abbrev pub WasRight : List ℕ → List Bool → Records ℕ → Type 0
 WasRight seeds memo records =
     (old : Records ℕ) × DifferAt seeds old records × IsRight memo old
-
--- that many names have P
-abbrev pub HasCount : (ℕ → Type 0) → ℕ → Type 0
-HasCount P count =
-    (names : List ℕ) × AllPairs (λ s t. s ≢ t) names × ((t : ℕ) → Contains names t ↔ P t)
-    × (length names ≡ count)

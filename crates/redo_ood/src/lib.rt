@@ -1,11 +1,12 @@
 //! Which targets are out of date: a memo that is corrected after each change, in the region of the names that changed.
 #![tactic(auto)]
 
-mod derive;
+mod database;
 mod hints;
+mod needs;
 mod ood;
 mod reason;
-mod region;
+mod targets;
 mod why;
 
 pub use ood::Ood;

@@ -1,6 +1,5 @@
-ghost use Rattle.std.specs.Prelude.{◌≡◌, ◌<◌, ◌≤◌, ℕ, IsTrue, length, IfOk, IfSome, IsOk, OnOk, OnErr, option_map, ◌++◌, ◌∷◌, [], if◌then◌else◌};
+ghost use Rattle.std.specs.Prelude.{◌≡◌, ◌<◌, ◌≤◌, ℕ, IsTrue, length, IfOk, IfSome, IsOk, option_map};
 ghost use Rattle.redo_model.specs.Names.{IsListed, by_number};
-ghost use Rattle.redo_model.specs.Inside.OutOfDate.{InRegion};
 ghost use Rattle.redo_model.specs.Why.{TellsWhy};
 ghost use Rattle.redo_model.specs.Inside.Why.{IsWhyBelow};
 ghost use Rattle.redo_model.specs.OutOfDate.{OutOfDate};
@@ -8,13 +7,12 @@ ghost use Rattle.redo_model.specs.Renaming.{AllBelow};
 ghost use Rattle.redo_model.specs.State.{empty};
 ghost use Rattle.redo_records.specs.Rows.{with_rows, rows_count};
 ghost use Rattle.redo_ood.specs.Meaning.{why_of};
-ghost use Rattle.redo_marks.specs.Memo.{memo_count, is_out, IsRight, WasRight, HasCount};
+ghost use Rattle.redo_marks.specs.Memo.{memo_count, is_out, IsRight, WasRight};
 
-use crate::derive::derive;
+use crate::database::Database;
 use crate::hints::Hints;
-use crate::region::{enter_marked, find_region};
 use crate::why::{Why, search};
-use redo_marks::NameSet;
+use redo_marks::Memo;
 use redo_records::{DepRows, Records};
 use std::alloc::{AllocError, Global};
 use std::marker::Model;
@@ -23,10 +21,7 @@ use std::marker::Model;
 /// Names are numbers below the number of names it was made for.
 #[derive(Drop)]
 pub struct Ood {
-    out: NameSet,
-    // nothing is marked in these between two calls
-    region: NameSet,
-    outdated: NameSet,
+    memo: Memo,
     // where a reason is looked for first
     hints: Hints,
 }
@@ -36,11 +31,7 @@ impl Model for Ood {
 
     ghost Value = { List Bool };
 
-    ghost use Rattle.redo_ood.specs.Inside.KeptMemo.{memo_of, KeepsMemo};
-
-    ghost view = { memo_of };
-
-    ghost invariant = { KeepsMemo };
+    ghost view = { λ inside. inside.memo };
 }
 
 impl Ood {
@@ -49,16 +40,9 @@ impl Ood {
         ensures count { IfOk result (λ ood. memo_count ood ≡ names) }
         ensures right { IfOk result (λ ood. IsRight ood empty.records) }
     {
-        let out = NameSet::new(alloc, names)?;
-        let region = NameSet::new(alloc, names)?;
-        let outdated = NameSet::new(alloc, names)?;
+        let memo = Memo::new(alloc, names)?;
         let hints = Hints::new(alloc, names)?;
-        Ok(Ood {
-            out,
-            region,
-            outdated,
-            hints,
-        })
+        Ok(Ood { memo, hints })
     }
 
     /// The same memo with more names, none of which is out of date.
@@ -67,47 +51,23 @@ impl Ood {
         ensures count { IfOk result (λ ood. memo_count ood ≡ names) }
         ensures same { IfOk result (λ ood. (t : ℕ) → is_out ood t ≡ is_out self.now t) }
     {
-        let out = self.out.grown(alloc, names)?;
-        let region = NameSet::new(alloc, names)?;
-        let outdated = NameSet::new(alloc, names)?;
+        let memo = self.memo.grown(alloc, names)?;
         let hints = Hints::new(alloc, names)?;
-        Ok(Ood {
-            out,
-            region,
-            outdated,
-            hints,
-        })
+        Ok(Ood { memo, hints })
     }
 
-    /// Makes the memo right for the records and rows; it was right before they changed at the seeds. Returns how many
-    /// names the region of the seeds has. Allocates nothing, and looks only at the region and its rows.
-    pub fn refresh(&mut self, records: &Records, rows: &DepRows, seeds: &[u32]) -> u32
+    /// Makes the memo right for the records and rows; it was right before they changed at the seeds. Allocates nothing,
+    /// and looks only at the region of the seeds and its rows.
+    pub fn refresh(&mut self, records: &Records, rows: &DepRows, seeds: &[u32])
         requires records { length records.now ≡ memo_count self.old }
         requires rows { rows_count rows.now ≡ memo_count self.old }
         requires seeds { AllBelow (memo_count self.old) seeds.now }
         requires right { WasRight seeds.now self.old (with_rows records.now rows.now) }
         ensures right { IsRight self.new (with_rows records.now rows.now) }
         ensures count { memo_count self.new ≡ memo_count self.old }
-        ensures region { HasCount (InRegion (with_rows records.now rows.now) seeds.now) result }
     {
-        let touching = find_region(records, rows, seeds, &mut self.region);
-        let region = self.region.queue();
-        let (touched, others) = region.split_at(touching);
-        enter_marked(&self.out, others, &mut self.outdated);
-        self.out.unmark(region);
-        // the others can be out of date by their own rows only if they were before
-        derive(records, rows, touched, &mut self.out, &mut self.hints);
-        derive(
-            records,
-            rows,
-            self.outdated.queue(),
-            &mut self.out,
-            &mut self.hints,
-        );
-        let size = region.len() as u32;
-        self.outdated.unmark_queue();
-        self.region.unmark_queue();
-        size
+        let database = Database { records, rows };
+        self.memo.refresh(&database, seeds, &mut self.hints);
     }
 
     /// Whether it is an out-of-date target.
@@ -115,7 +75,7 @@ impl Ood {
         requires { t < memo_count self.now }
         ensures { result ≡ is_out self.now t }
     {
-        self.out.contains(t)
+        self.memo.is(t)
     }
 
     /// Why the target is out of date, if it is and the memo is right. Looks at names that a chain of change rows leads
@@ -141,8 +101,9 @@ impl Ood {
         if !self.is(t) {
             return Ok(None);
         }
-        let found = search(alloc, records, rows, &self.out, t, &mut self.region);
-        self.region.unmark_queue();
+        let memo = &mut self.memo;
+        let found = search(alloc, records, rows, &memo.out, t, &mut memo.region);
+        memo.region.unmark_queue();
         found
     }
 
@@ -152,6 +113,6 @@ impl Ood {
             IsListed by_number (λ t. IsTrue (is_out self.now t)) targets.items) }
         ensures below { IfOk result (λ targets. AllBelow (memo_count self.now) targets.items) }
     {
-        self.out.list(alloc)
+        self.memo.list(alloc)
     }
 }

@@ -12,9 +12,9 @@ ghost use Rattle.redo_marks.specs.Inside.NameSet.{AreQueued};
 ghost use Rattle.redo_ood.specs.Meaning.{reason_of, why_of};
 ghost use Rattle.redo_ood.specs.Inside.Search.{IsSearch, StepsBefore, Finds, IsWay, HaveNoReason, IsFirstReason};
 
-use crate::derive::needs_marked;
+use crate::needs::needs_marked;
 use crate::reason::{Reason, own_reason};
-use crate::region::is_target;
+use crate::targets::is_target;
 use redo_marks::NameSet;
 use redo_records::{DepRows, Records};
 use std::alloc::{AllocError, Global};

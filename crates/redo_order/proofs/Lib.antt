@@ -1,4 +1,3 @@
-pub mod Counting
 pub mod Listed
 pub mod Places
 pub mod Ranked

@@ -7,7 +7,7 @@ use Rattle.std.specs.Cmp.{nat_cmp_is}
 use Rattle.std.specs.Ordering.{nat_cmp}
 use Rattle.std.specs.declared.cmp.Ordering.TheVariants.{Less, Equal, Greater}
 use Rattle.std.proofs.lemmas.Bool.{cases_eq, cases_order, false≢true, ne_eqb}
-use Rattle.std.proofs.lemmas.List.{append-nil, get_or_default, get_or-map, get_or-set_other, get_or-set_same, length-map, map_more}
+use Rattle.std.proofs.lemmas.List.{append-nil, get_or-map, get_or-set_other, get_or-set_same, length-map, map_more}
 use Rattle.std.proofs.lemmas.List.Elements.{Contains-append_left, Contains-get_or, Contains-push, Contains-push_cases}
 use Rattle.std.proofs.lemmas.List.Filters.{dedup_is}
 use Rattle.std.proofs.lemmas.List.Kept.{AllPairs-from_increasing, Contains-dedup_nat, Contains-from_dedup}
@@ -17,7 +17,7 @@ use Rattle.std.proofs.lemmas.Map.Steps.{length-le_from_distinct_below}
 use Rattle.std.proofs.lemmas.Map.Views.{Contains-from_any}
 use Rattle.redo_model.specs.Names.{Ascending, by_number, numbers}
 use Rattle.redo_model.proofs.Listing.{each_below, one_more}
-use Rattle.redo_order.specs.Orders.{AreRanks, by_place, place}
+use Rattle.redo_order.specs.Orders.{by_place, place}
 use Rattle.redo_order.specs.Inside.Orders.{IsOrderOf, AreInOrder, ArePlaces}
 use Rattle.redo_order.proofs.Sorting.{AllPairs-map}
 
@@ -46,16 +46,6 @@ ranked_more sorted ranks k in' below before n c =
           ]) in
           (omega (arith, same, was.0), ap (λ i. get_or sorted i 0) same ∙ was.1)
     ]
-
--- a rank that was read
-pub rank_read : {sorted ranks : List ℕ} (n rank : ℕ) → AreRanks sorted ranks → Contains sorted n
-    → rank ≡ get_or ranks n rank → (rank < length sorted) × (get_or sorted rank 0 ≡ n)
-rank_read {sorted = sorted} {ranks = ranks} n rank are c read =
-    let same : get_or ranks n 0 ≡ rank =
-    get_or_default ranks n 0 rank (are.within n c) ∙ sym read in (
-      subst (λ k. k < length sorted) same (are.below n c),
-      subst (λ k. get_or sorted k 0 ≡ n) same (are.at n c),
-    )
 
 -- the places of those of the names that have Q
 abbrev pub PlacesOf : List ℕ → (ℕ → Type 0) → List ℕ → (ℕ → Type 0) → Type 0

@@ -14,10 +14,6 @@ place sorted n = position_or_len (λ m. m == n) sorted
 unfoldable pub by_place : List ℕ → ℕ → ℕ → Ordering
 by_place sorted m n = nat_cmp (place sorted m) (place sorted n)
 
--- the numbers below the count are in their own order
-abbrev pub IsByNumber : ℕ → (ℕ → ℕ → Ordering) → Type 0
-IsByNumber count order = (m n : ℕ) → m < count → n < count → order m n ≡ nat_cmp m n
-
 -- the numbers of all names, each once, in the order of their texts
 pub record AreSorted (names : List (List ℕ)) (sorted : List ℕ) : Type 0 where
   pub listed : IsListed (by_text names) (λ n. n < length names) sorted

@@ -5,4 +5,4 @@ mod lists;
 mod sorted;
 
 pub use lists::{in_order, names_at};
-pub use sorted::{numbers_below, ranks_of, sorted_numbers};
+pub use sorted::{ranks_of, sorted_numbers};

@@ -1,7 +1,6 @@
 //! The numbers of all names, in order, and the place of each.
 
 ghost use Rattle.std.specs.Prelude.{◌≡◌, ◌<◌, ◌^◌, length, map, IfOk};
-ghost use Rattle.std.specs.List.{range_with_len};
 ghost use Rattle.redo_model.specs.Renaming.{AllBelow};
 ghost use Rattle.redo_order.specs.Orders.{AreSorted, AreRanks};
 ghost use Rattle.redo_names.specs.Inside.Names.{AreNames};
@@ -48,11 +47,4 @@ pub fn ranks_of(alloc: Global, sorted: &[u32]) -> Result<Vec<u32>, AllocError>
         ranks[sorted[k] as usize] = k as u32;
     }
     Ok(ranks)
-}
-
-/// All numbers below the count, in order.
-pub fn numbers_below(alloc: Global, count: u32) -> Result<Vec<u32>, AllocError>
-    ensures { IfOk result (λ numbers. numbers.items ≡ range_with_len 0 count) }
-{
-    (0..count).collect(alloc)
 }

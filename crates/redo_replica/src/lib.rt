@@ -4,18 +4,19 @@
 mod cell;
 mod cells;
 mod changes;
-mod derive;
+mod database;
 mod laws;
 mod lists;
 mod mark;
 mod memo;
+mod needs;
 mod reason;
-mod region;
 mod replica;
 mod replies;
 mod rows;
 mod seed;
 mod state;
+mod targets;
 mod verdict;
 
 pub use cell::CompactCell;

@@ -1,4 +1,4 @@
-ghost use Rattle.std.specs.Prelude.{◌≡◌, ◌↔◌, ◌⊎◌, ◌<◌, [], ℕ, Some, IfOk, IfSome, Contains, false, replicate};
+ghost use Rattle.std.specs.Prelude.{◌≡◌, ◌↔◌, ◌⊎◌, ◌<◌, ℕ, Some, IfOk, IfSome, Contains};
 ghost use Rattle.redo_model.specs.State.{empty};
 ghost use Rattle.redo_marks.specs.Memo.{memo_count, IsRight};
 ghost use Rattle.redo_replica.specs.Replicas.{records_in};
@@ -6,8 +6,7 @@ ghost use Rattle.redo_replica.specs.Inside.Fits.{IsFit};
 ghost use Rattle.redo_replica.specs.Inside.Memos.{IsMemoOf};
 
 use crate::cells::CompactCells;
-use crate::derive::derive;
-use crate::region::{enter_marked, find_region};
+use crate::database::Database;
 use crate::rows::PairRows;
 use redo_graph::Graph;
 use redo_marks::NameSet;
@@ -19,11 +18,8 @@ use std::marker::Model;
 /// allocates.
 #[derive(Drop)]
 pub(crate) struct Memo {
-    out: NameSet,
+    out: redo_marks::Memo,
     seeds: NameSet,
-    // nothing is marked in these between two calls
-    region: NameSet,
-    outdated: NameSet,
 }
 
 impl Model for Memo {
@@ -38,32 +34,15 @@ impl Model for Memo {
     ghost invariant = { KeepsMemo };
 }
 
-/// Two sets in which none of these names is marked.
-fn two_empty_sets(alloc: Global, names: u32) -> Result<(NameSet, NameSet), AllocError>
-    ensures first { IfOk result (λ sets.
-        sets.0 ≡ record { marks = replicate names false; queue = [] }) }
-    ensures second { IfOk result (λ sets.
-        sets.1 ≡ record { marks = replicate names false; queue = [] }) }
-{
-    let first = NameSet::new(alloc, names)?;
-    let second = NameSet::new(alloc, names)?;
-    Ok((first, second))
-}
-
 impl Memo {
     /// Nothing is out of date.
     pub(crate) fn new(alloc: Global, names: u32) -> Result<Memo, AllocError>
         ensures count { IfOk result (λ memo. memo_count memo.out ≡ names) }
         ensures right { IfOk result (λ memo. IsRight memo.out empty.records) }
     {
-        let (out, seeds) = two_empty_sets(alloc, names)?;
-        let (region, outdated) = two_empty_sets(alloc, names)?;
-        Ok(Memo {
-            out,
-            seeds,
-            region,
-            outdated,
-        })
+        let out = redo_marks::Memo::new(alloc, names)?;
+        let seeds = NameSet::new(alloc, names)?;
+        Ok(Memo { out, seeds })
     }
 
     /// Notes a seed, if there is one.
@@ -87,17 +66,8 @@ impl Memo {
         ensures none { (n : ℕ) → Contains self.new.seeds n → ⊥ }
         ensures memo { IsMemoOf graph.now.tables cells.now rows.now self.new }
     {
-        let seeds = self.seeds.queue();
-        let touching = find_region(graph, cells, rows, seeds, &mut self.region);
-        let region = self.region.queue();
-        let (touched, others) = region.split_at(touching);
-        enter_marked(&self.out, others, &mut self.outdated);
-        self.out.unmark(region);
-        // the others can be out of date by their own rows only if they were before
-        derive(graph, cells, rows, touched, &mut self.out);
-        derive(graph, cells, rows, self.outdated.queue(), &mut self.out);
-        self.outdated.unmark_queue();
-        self.region.unmark_queue();
+        let database = Database { graph, cells, rows };
+        self.out.refresh(&database, self.seeds.queue(), &mut ());
         self.seeds.unmark_queue();
     }
 
@@ -105,6 +75,6 @@ impl Memo {
     pub(crate) fn marks(&self) -> &NameSet
         ensures { result.now.marks ≡ self.now.out }
     {
-        &self.out
+        self.out.marks()
     }
 }

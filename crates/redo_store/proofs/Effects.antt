@@ -2,6 +2,7 @@
 use Rattle.std.proofs.Common.{◌≡◌, ℕ, ◌+◌, ◌<◌, ◌≤◌, ◌==◌, cond, List, None, length, get_or, take, subst}
 use Rattle.std.proofs.Math.Path.{fun_ext}
 use Rattle.std.proofs.lemmas.List.{take_all}
+use Rattle.redo_model.specs.Names.{by_number}
 use Rattle.redo_model.specs.Command as commands
 use Rattle.redo_model.specs.State.{Cell, Mark, Building, idle, mark_of}
 use Rattle.redo_model.specs.Step.{effect_of}
@@ -9,7 +10,7 @@ use Rattle.redo_records.specs.Cells.{cell_at, with_cell_at}
 use Rattle.redo_records.specs.Rows.{TargetRows, rows_of, with_change, with_created, with_always, without_rows, with_rows}
 use Rattle.redo_records.proofs.Effects.{set_is_put, change_more, created_more}
 use Rattle.redo_store.specs.Inside.Changes.{AreRowsAfter}
-use Rattle.redo_store.specs.Stored.{Stored, records_of, naming_of}
+use Rattle.redo_store.specs.Stored.{Stored, records_of}
 
 -- the rows over these cells, written name by name
 module _ {cells : List Cell} {from before now : List TargetRows} {t : ℕ} (ns : List ℕ) (i : ℕ)
@@ -55,7 +56,7 @@ module _ (t : Stored) (n : ℕ) (to : List TargetRows) where
             (record (cell_at t.cells n) { state = Building s; digest = None });
         rows = to;
       })
-      ≡ effect_of (naming_of t) (records_of t) s (commands.Start n)
+      ≡ effect_of by_number (records_of t) s (commands.Start n)
   started s below cleared =
       let cell : Cell = record (cell_at t.cells n) { state = Building s; digest = None } in
       let cells : (λ (k : ℕ). cell_at (with_cell_at t.cells n cell) k)
@@ -65,5 +66,5 @@ module _ (t : Stored) (n : ℕ) (to : List TargetRows) where
 
   pub put_for_always : (s : ℕ) → rows_of to ≡ with_always (rows_of t.rows) n
       → records_of (record t { rows = to })
-      ≡ effect_of (naming_of t) (records_of t) s (commands.Always n)
+      ≡ effect_of by_number (records_of t) s (commands.Always n)
   put_for_always s written = λ i. record { cell = cell_at t.cells; rows = written i }

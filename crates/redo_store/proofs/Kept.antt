@@ -3,7 +3,7 @@ use Rattle.std.proofs.Common.{◌≡◌, ℕ, zero, suc, ◌<◌, ◌≤◌, ◌
 use Rattle.std.proofs.Math.ListN.{set, length-set, replicate, length-replicate}
 use Rattle.std.proofs.Math.Path.{fun_ext}
 use Rattle.std.proofs.lemmas.List.{get_or_default}
-use Rattle.redo_model.specs.Names.{put}
+use Rattle.redo_model.specs.Names.{put, by_number}
 use Rattle.redo_model.specs.State.{Cell, idle}
 use Rattle.redo_model.specs.Step.{after, locks_granted}
 use Rattle.redo_model.specs.Command as commands
@@ -11,12 +11,9 @@ use Rattle.redo_model.proofs.MorePlaces.{same_everywhere}
 use Rattle.redo_records.specs.Cells.{cell_at}
 use Rattle.redo_records.specs.Rows.{TargetRows, rows_count}
 use Rattle.redo_records.proofs.Effects.{set_is_put}
-use Rattle.redo_order.specs.Inside.Orders.{IsOrderOf}
-use Rattle.redo_order.proofs.Counting.{up_to, listed_up_to}
 use Rattle.redo_store.specs.Stored.{Stored}
 use Rattle.redo_store.specs.Inside.Stored.{IsStored}
 use Rattle.redo_store.specs.Tables.{Tables, tables_records, locks_of, state_of}
-use Rattle.redo_store.specs.Inside.Tables.{tables_naming}
 
 -- what is true at every place still is after a write that keeps it
 pub each_set : {X : Type 0} (P : X → Type 0) (xs : List X) (i : ℕ) (x d : X)
@@ -32,7 +29,6 @@ pub IsStored-set_cell : (t : Stored) (n : ℕ) (c : Cell) → IsStored t → c.b
     → IsStored (record t { cells = set t.cells n c })
 IsStored-set_cell t n c h few = record {
   rows_for_each = h.rows_for_each ∙ sym (length-set t.cells n c);
-  all_in_order = simp length-set h.all_in_order;
   few_builds = each_set (λ (y : Cell). y.builds ≤ t.applied) t.cells n c idle h.few_builds few;
   few_names = subst (λ (m : ℕ). m < 2 ^ 32) (sym (length-set t.cells n c)) h.few_names;
 }
@@ -42,7 +38,6 @@ pub IsStored-set_rows : (t : Stored) (to : List TargetRows) → IsStored t
     → rows_count to ≡ rows_count t.rows → IsStored (record t { rows = to })
 IsStored-set_rows t to h same = record {
   rows_for_each = same ∙ h.rows_for_each;
-  all_in_order = h.all_in_order;
   few_builds = h.few_builds;
   few_names = h.few_names;
 }
@@ -57,51 +52,37 @@ none_built count cells all_idle n =
     omega arith
 
 -- a store in which nothing is known
-pub IsStored-new : (t : Stored) (count : ℕ) → IsOrderOf count t.sorted
-    → t.cells ≡ replicate count idle → rows_count t.rows ≡ count → count < 2 ^ 32 → IsStored t
-IsStored-new t count order cells each few =
+pub IsStored-new : (t : Stored) (count : ℕ) → t.cells ≡ replicate count idle
+    → rows_count t.rows ≡ count → count < 2 ^ 32 → IsStored t
+IsStored-new t count cells each few =
     let counted : length t.cells ≡ count = ap length cells ∙ length-replicate count idle in
     record {
       rows_for_each = each ∙ sym counted;
-      all_in_order = subst (λ (m : ℕ). IsOrderOf m t.sorted) (sym counted) order;
       few_builds = λ n. omega (arith, none_built count t.cells cells n);
       few_names = subst (λ (m : ℕ). m < 2 ^ 32) (sym counted) few;
     }
-
--- a store whose numbers are in their own order
-pub IsStored-by_number : (t : Stored) (count : ℕ) → t.sorted ≡ up_to count
-    → length t.cells ≡ count → rows_count t.rows ≡ count
-    → ((n : ℕ) → (cell_at t.cells n).builds ≤ t.applied) → count < 2 ^ 32 → IsStored t
-IsStored-by_number t count sorted cells rows builds few = record {
-  rows_for_each = rows ∙ sym cells;
-  all_in_order =
-      subst (IsOrderOf (length t.cells)) (sym sorted)
-      (subst (λ (m : ℕ). IsOrderOf m (up_to count)) (sym cells) (listed_up_to count));
-  few_builds = builds;
-  few_names = omega (arith, cells);
-}
 
 -- a free lock is granted: g is the grants that were read
 pub granted : (t : Tables) (s n g : ℕ) → n < length t.holders → n < length t.grants
     → get_or t.holders n None ≡ None → g ≡ get_or t.grants n g
     → state_of (record t { holders = set t.holders n (Some s); grants = set t.grants n (g + 1) })
-    ≡ after (tables_naming t) (state_of t) s (commands.Lock n)
+    ≡ after by_number (state_of t) s (commands.Lock n)
 granted t s n g has_holder has_grants none count =
     let so_far : g ≡ get_or t.grants n 0 = count ∙ get_or_default t.grants n g 0 has_grants in
     let holders : (λ (k : ℕ). get_or (set t.holders n (Some s)) k None)
-    ≡ put (tables_naming t) n (Some s) (λ k. get_or t.holders k None) =
+    ≡ put by_number n (Some s) (λ k. get_or t.holders k None) =
     fun_ext (set_is_put t.holders n (Some s) None has_holder) in
     let grants : (λ (k : ℕ). get_or (set t.grants n (g + 1)) k 0)
-    ≡ put (tables_naming t) n (get_or t.grants n 0 + 1) (λ k. get_or t.grants k 0) =
+    ≡ put by_number n (get_or t.grants n 0 + 1) (λ k. get_or t.grants k 0) =
     fun_ext (set_is_put t.grants n (g + 1) 0 has_grants)
-    ∙ ap (λ (m : ℕ). put (tables_naming t) n (m + 1) (λ k. get_or t.grants k 0)) so_far
+    ∙ ap (λ (m : ℕ). put by_number n (m + 1) (λ k. get_or t.grants k 0)) so_far
     in
     subst (λ (h : Option ℕ). state_of (record t {
       holders = set t.holders n (Some s);
       grants = set t.grants n (g + 1);
     }) ≡ record {
       records = tables_records t;
-      locks = locks_granted (tables_naming t) h (locks_of t) s n;
+      locks = locks_granted by_number h (locks_of t) s n;
     }) (sym none)
     (λ i. record {
       records = tables_records t;

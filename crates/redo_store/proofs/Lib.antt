@@ -10,4 +10,5 @@ pub mod Obeyed
 pub mod Holding
 pub mod Places
 pub mod Slots
+pub mod Stale
 pub mod Unknown

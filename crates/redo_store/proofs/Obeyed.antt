@@ -5,8 +5,7 @@ use Rattle.std.proofs.Math.ListN.{set}
 use Rattle.std.proofs.Math.Path.{fun_ext}
 use Rattle.std.proofs.lemmas.Bool.{cases_eq, eq-eqb, ne_eqb}
 use Rattle.std.proofs.lemmas.List.{get_or-set_other}
-use Rattle.std.specs.declared.cmp.Ordering.{Ordering}
-use Rattle.redo_model.specs.Names.{Naming, numbers}
+use Rattle.redo_model.specs.Names.{Naming, by_number}
 use Rattle.redo_model.specs.State.{Locks, State}
 use Rattle.redo_model.specs.Command.{Command, File, Gone, Lock, Unlock, Start, IfChange, IfCreate, Always, Stamp, Done, Failed, Ood, Targets, Sources, asked_lock}
 use Rattle.redo_model.specs.Reply.{Refusal, Reply, Okay, Refused, lets_through}
@@ -15,7 +14,7 @@ use Rattle.redo_model.proofs.LetThrough.{accepted_through, stopped_same, told_wi
 use Rattle.redo_store.specs.Inside.Changes.{HasEffect}
 use Rattle.redo_store.specs.Stored.{Stored, records_of}
 use Rattle.redo_store.specs.Tables.{Tables, tables_records, locks_of, state_of, calls_of, IsAsBefore}
-use Rattle.redo_store.specs.Inside.Tables.{tables_naming, freed_by}
+use Rattle.redo_store.specs.Inside.Tables.{freed_by}
 use Rattle.redo_store.proofs.Rooms.{accepted_of_holder, changed_accepted}
 
 -- the locks without that of the target, if there is one
@@ -37,16 +36,16 @@ unlocked naming locks t reply (Some refusal) h =
 module _ (old : Tables) (s : ℕ) (holds : Bool) where
   -- the locks after a command, by its reply
   freed_after : (command : Command ℕ) (reply : Reply ℕ) → asked_lock command ≡ None
-      → Replies (tables_naming old) (tables_records old) s holds command reply
-      → locks_after (tables_naming old) (locks_of old) s
-      (verdict_of (tables_naming old) (tables_records old) s holds command) command
-      ≡ freed (tables_naming old) (locks_of old) (freed_by command reply)
+      → Replies by_number (tables_records old) s holds command reply
+      → locks_after by_number (locks_of old) s
+      (verdict_of by_number (tables_records old) s holds command) command
+      ≡ freed by_number (locks_of old) (freed_by command reply)
   freed_after (File n stamp) reply none h = refl
   freed_after (Gone n) reply none h = refl
   freed_after (Lock t) reply none h = cc
   freed_after (Unlock t) reply none h =
-      unlocked (tables_naming old) (locks_of old) t reply
-      (verdict_of (tables_naming old) (tables_records old) s holds (Unlock t)) h
+      unlocked by_number (locks_of old) t reply
+      (verdict_of by_number (tables_records old) s holds (Unlock t)) h
   freed_after (Start t) reply none h = refl
   freed_after (IfChange t ns) reply none h = refl
   freed_after (IfCreate t ns) reply none h = refl
@@ -61,19 +60,19 @@ module _ (old : Tables) (s : ℕ) (holds : Bool) where
   -- the state after it, if its target's lock is freed after its change
   pub obeyed : (new : Tables) (command : Command ℕ) (reply : Reply ℕ) → asked_lock command ≡ None
       → holds ≡ holds_target (locks_of old) s command
-      → Replies (tables_naming old) (tables_records old) s holds command reply
-      → tables_records new ≡ records_after (tables_naming old) (tables_records old) s holds command
-      → locks_of new ≡ freed (tables_naming old) (locks_of old) (freed_by command reply)
-      → state_of new ≡ after (tables_naming old) (state_of old) s command
+      → Replies by_number (tables_records old) s holds command reply
+      → tables_records new ≡ records_after by_number (tables_records old) s holds command
+      → locks_of new ≡ freed by_number (locks_of old) (freed_by command reply)
+      → state_of new ≡ after by_number (state_of old) s command
   obeyed new command reply none held replies records locks =
-      let whole : locks_of new ≡ locks_after (tables_naming old) (locks_of old) s
-      (verdict_of (tables_naming old) (tables_records old) s holds command) command =
+      let whole : locks_of new ≡ locks_after by_number (locks_of old) s
+      (verdict_of by_number (tables_records old) s holds command) command =
       locks ∙ sym (freed_after command reply none replies) in
       subst (λ (h : Bool). state_of new ≡ record {
-        records = records_after (tables_naming old)
+        records = records_after by_number
             (tables_records old) s h command;
-        locks = locks_after (tables_naming old) (locks_of old) s
-            (verdict_of (tables_naming old) (tables_records old) s h command) command;
+        locks = locks_after by_number (locks_of old) s
+            (verdict_of by_number (tables_records old) s h command) command;
       }) held
       (λ i. record { records = records i; locks = whole i })
 
@@ -93,7 +92,7 @@ none_is_put xs i k = elim (cases_eq i k) [
 
 -- a target without a holder is free
 pub freed_at : (t : Tables) (n : ℕ) → locks_of (record t { holders = set t.holders n None })
-    ≡ freed (tables_naming t) (locks_of t) (Some n)
+    ≡ freed by_number (locks_of t) (Some n)
 freed_at t n =
     let holders : (λ (k : ℕ). get_or (set t.holders n None) k None)
     ≡ (λ k. cond (n == k) None (get_or t.holders k None)) =
@@ -102,45 +101,44 @@ freed_at t n =
 
 -- a command that is no lock is accepted if it isn't refused
 pub accepted_told : (t : Tables) (s : ℕ) (command : Command ℕ) (reply : Reply ℕ)
-    → asked_lock command ≡ None → Answers (tables_naming t) (state_of t) s command reply
+    → asked_lock command ≡ None → Answers by_number (state_of t) s command reply
     → lets_through reply ≡ true
-    → verdict_of (tables_naming t) (tables_records t) s true command ≡ None
+    → verdict_of by_number (tables_records t) s true command ≡ None
 accepted_told t s command reply none told through =
     let holds : Bool = holds_target (locks_of t) s command in
-    accepted_of_holder (tables_naming t) (tables_records t) s holds command
-    (accepted_through (tables_naming t) (tables_records t) s holds command reply
-    (told_without_lock (tables_naming t) (state_of t) s command reply none told) through)
+    accepted_of_holder by_number (tables_records t) s holds command
+    (accepted_through by_number (tables_records t) s holds command reply
+    (told_without_lock by_number (state_of t) s command reply none told) through)
 
 -- a command that is no lock, and isn't refused, was applied, and its target's lock freed
 pub obeyed_accepted : (t : Tables) (to : Stored) (s : ℕ) (new : Tables) (command : Command ℕ)
     (reply : Reply ℕ) → asked_lock command ≡ None
-    → Answers (tables_naming t) (state_of t) s command reply → lets_through reply ≡ true
+    → Answers by_number (state_of t) s command reply → lets_through reply ≡ true
     → HasEffect t.store to s command → tables_records new ≡ records_of to
-    → locks_of new ≡ freed (tables_naming t) (locks_of t) (freed_by command reply)
-    → state_of new ≡ after (tables_naming t) (state_of t) s command
+    → locks_of new ≡ freed by_number (locks_of t) (freed_by command reply)
+    → state_of new ≡ after by_number (state_of t) s command
 obeyed_accepted t to s new command reply none told through changed records locks =
     let holds : Bool = holds_target (locks_of t) s command in
-    let replies : Replies (tables_naming t) (tables_records t) s holds command reply =
-    told_without_lock (tables_naming t) (state_of t) s command reply none told in
-    let accepted : verdict_of (tables_naming t) (tables_records t) s holds command ≡ None =
-    accepted_through (tables_naming t) (tables_records t) s holds command reply replies through in
+    let replies : Replies by_number (tables_records t) s holds command reply =
+    told_without_lock by_number (state_of t) s command reply none told in
+    let accepted : verdict_of by_number (tables_records t) s holds command ≡ None =
+    accepted_through by_number (tables_records t) s holds command reply replies through in
     obeyed t s holds new command reply none refl replies
     (records ∙ changed_accepted t.store to s holds command accepted changed) locks
 
 -- a command whose reply lets nothing through leaves the state
 pub stopped_call : (old counted : Tables) (s : ℕ) (command : Command ℕ) (reply : Reply ℕ)
-    → Answers (tables_naming old) (state_of old) s command reply → lets_through reply ≡ false
+    → Answers by_number (state_of old) s command reply → lets_through reply ≡ false
     → counted ≡ record old { calls = calls_of old + 1 }
-    → state_of counted ≡ after (tables_naming old) (state_of old) s command
+    → state_of counted ≡ after by_number (state_of old) s command
 stopped_call old counted s command reply told stopped is =
     ap state_of is
-    ∙ sym (stopped_same (tables_naming old) (state_of old) s command reply told stopped)
+    ∙ sym (stopped_same by_number (state_of old) s command reply told stopped)
 
 -- a call after memory was reserved
 pub called_in : (old made new : Tables) (s : ℕ) (command : Command ℕ) → IsAsBefore old made
-    → state_of new ≡ after (tables_naming made) (state_of made) s command
-    → state_of new ≡ after (tables_naming old) (state_of old) s command
+    → state_of new ≡ after by_number (state_of made) s command
+    → state_of new ≡ after by_number (state_of old) s command
 called_in old made new s command same called =
     called
-    ∙ ap (λ (order : ℕ → ℕ → Ordering). after (numbers order) (state_of made) s command) same.order
-    ∙ ap (λ (st : State ℕ). after (tables_naming old) st s command) same.state
+    ∙ ap (λ (st : State ℕ). after by_number st s command) same.state

@@ -200,7 +200,6 @@ pub refreshed : {inside : Inside} (cells : List Cell) (targets : List TargetRows
     → KeepsStored (record inside { records = cells; rows = targets; memo = memo })
 refreshed cells targets kept stored for_each right = record {
   stored = stored;
-  ranked = kept.ranked;
   memo_for_each = for_each;
   memo_right = right;
 }

@@ -5,11 +5,11 @@ use Rattle.std.specs.List.{list_all}
 use Rattle.std.proofs.lemmas.List.Elements.{All-weaker, All-contains_itself}
 use Rattle.std.proofs.lemmas.List.Sums.{list_all-from_AllPass}
 use Rattle.redo_model.specs.Command.{Command, File, Gone, Lock, Unlock, Start, IfChange, IfCreate, Always, Stamp, Done, Failed, Ood, Targets, Sources}
-use Rattle.redo_model.specs.Names.{Naming}
+use Rattle.redo_model.specs.Names.{Naming, by_number}
 use Rattle.redo_model.specs.State.{Records}
 use Rattle.redo_model.specs.Step.{verdict_of, effect_of, records_after, unless_refused}
 use Rattle.redo_store.specs.Inside.Changes.{HasEffect}
-use Rattle.redo_store.specs.Stored.{Stored, records_of, naming_of}
+use Rattle.redo_store.specs.Stored.{Stored, records_of}
 
 -- a test that is true for each of the names
 pub all_of_them : (test : ℕ → Bool) (ns : List ℕ) → ((n : ℕ) → Contains ns n → IsTrue (test n))
@@ -40,10 +40,10 @@ accepted_of_holder naming r s false Sources none = none
 
 -- the effect of an accepted command is what the command leaves
 pub changed_accepted : (old new : Stored) (s : ℕ) (holds : Bool) (command : Command ℕ)
-    → verdict_of (naming_of old) (records_of old) s holds command ≡ None
+    → verdict_of by_number (records_of old) s holds command ≡ None
     → HasEffect old new s command
-    → records_of new ≡ records_after (naming_of old) (records_of old) s holds command
+    → records_of new ≡ records_after by_number (records_of old) s holds command
 changed_accepted old new s holds command accepted changed =
     changed
     ∙ ap (λ verdict. unless_refused verdict (records_of old)
-    (effect_of (naming_of old) (records_of old) s command)) (sym accepted)
+    (effect_of by_number (records_of old) s command)) (sym accepted)

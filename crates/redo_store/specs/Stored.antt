@@ -2,18 +2,13 @@
 use Rattle.std.specs.Prelude.{◌≡◌, ℕ, Bool, true, false, IsTrue, List, length}
 use Rattle.std.specs.List.{list_all}
 use Rattle.redo_model.specs.Command.{Command, IfChange, IfCreate, Ood, Targets, Sources}
-use Rattle.std.specs.declared.cmp.Ordering.{Ordering}
-use Rattle.redo_model.specs.Names.{Naming, numbers}
 use Rattle.redo_model.specs.State.{Cell, Records}
 use Rattle.redo_records.specs.Rows.{TargetRows, room_of, with_rows}
-use Rattle.redo_order.specs.Orders.{by_place}
 
--- a cell and the rows for each name, the numbers of all names in order, and how many commands were
--- applied
+-- a cell and the rows for each name, and how many commands were applied
 pub record Stored : Type 0 where
   pub cells : List Cell
   pub rows : List TargetRows
-  pub sorted : List ℕ
   pub applied : ℕ
 
 abbrev pub records_of : Stored → Records ℕ
@@ -22,13 +17,6 @@ records_of stored = with_rows stored.cells stored.rows
 -- how many names there are
 abbrev pub count_of : Stored → ℕ
 count_of stored = length stored.cells
-
--- the order of the numbers
-abbrev pub order_of : Stored → ℕ → ℕ → Ordering
-order_of stored = by_place stored.sorted
-
-abbrev pub naming_of : Stored → Naming ℕ
-naming_of stored = numbers (order_of stored)
 
 -- how many commands were applied
 abbrev pub applied_of : Stored → ℕ
@@ -52,6 +40,5 @@ lists_names command = false
 pub record IsSameButRoom (old new : Stored) : Type 0 where
   pub records : records_of new ≡ records_of old
   pub count : count_of new ≡ count_of old
-  pub sorted : new.sorted ≡ old.sorted
   pub applied : new.applied ≡ old.applied
   pub room : (t n : ℕ) → IsTrue (room_of old.rows t n) → IsTrue (room_of new.rows t n)

@@ -1,6 +1,5 @@
 -- The value of the one-thread database.
 use Rattle.std.specs.Prelude.{◌≡◌, ℕ, List, Option, None, slice_index, slice_index_or}
-use Rattle.std.specs.declared.cmp.Ordering.{Ordering}
 use Rattle.redo_model.specs.State.{Records, Locks, State}
 use Rattle.redo_store.specs.Stored.{Stored}
 use Rattle.redo_store.specs.Stored as stored
@@ -29,17 +28,12 @@ state_of tables = record { records = tables_records tables; locks = locks_of tab
 abbrev pub tables_count : Tables → ℕ
 tables_count tables = stored.count_of tables.store
 
--- the order of the numbers
-abbrev pub tables_order : Tables → ℕ → ℕ → Ordering
-tables_order tables = stored.order_of tables.store
-
 -- the calls that gave a reply
 abbrev pub calls_of : Tables → ℕ
 calls_of tables = tables.calls
 
--- the same state, names and calls
+-- the same state, count of names and calls
 pub record IsAsBefore (old new : Tables) : Type 0 where
   pub state : state_of new ≡ state_of old
   pub count : tables_count new ≡ tables_count old
-  pub order : tables_order new ≡ tables_order old
   pub calls : calls_of new ≡ calls_of old

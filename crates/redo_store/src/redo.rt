@@ -1,5 +1,5 @@
 ghost use Rattle.std.specs.Prelude.{◌≡◌, ◌+◌, ◌^◌, ◌<◌, IfOk, IsOk, IsSome, OnOk, OnErr};
-ghost use Rattle.redo_model.specs.Names.{numbers};
+ghost use Rattle.redo_model.specs.Names.{by_number};
 ghost use Rattle.redo_model.specs.Command.{asked_lock};
 ghost use Rattle.redo_model.specs.Step.{Answers, after, holds_target, verdict_of};
 ghost use Rattle.redo_model.specs.Renaming.{IsBelow, IsReplyBelow};
@@ -42,7 +42,7 @@ impl Model for Redo {
 }
 
 impl Redo {
-    ghost use Rattle.redo_store.specs.Tables.{state_of, tables_order, tables_count, calls_of, IsAsBefore};
+    ghost use Rattle.redo_store.specs.Tables.{state_of, tables_count, calls_of, IsAsBefore};
 
     /// The reply to a session's command, and its change. An error changes neither the state nor the calls. A lock, or a
     /// command that is refused, gives no error.
@@ -54,18 +54,16 @@ impl Redo {
     ) -> Result<Reply, AllocError>
         requires numbers { IsBelow (tables_count self.old) (command_of command.now) }
         requires calls { calls_of self.old + 1 < 2 ^ 32 }
-        ensures answers { IfOk result (λ reply. Answers (numbers (tables_order self.old))
-            (state_of self.old) session (command_of command.now) (reply_of reply)) }
-        ensures after { OnOk result (state_of self.new ≡ after (numbers (tables_order self.old))
-            (state_of self.old) session (command_of command.now)) }
+        ensures answers { IfOk result (λ reply. Answers by_number (state_of self.old) session
+            (command_of command.now) (reply_of reply)) }
+        ensures after { OnOk result (state_of self.new
+            ≡ after by_number (state_of self.old) session (command_of command.now)) }
         ensures calls { OnOk result (calls_of self.new ≡ calls_of self.old + 1) }
         ensures below { IfOk result
             (λ reply. IsReplyBelow (tables_count self.old) (reply_of reply)) }
         ensures count { tables_count self.new ≡ tables_count self.old }
-        ensures order { tables_order self.new ≡ tables_order self.old }
         ensures lock { IsSome (asked_lock (command_of command.now)) → IsOk result }
-        ensures refused { IsSome (verdict_of (numbers (tables_order self.old))
-            (state_of self.old).records session
+        ensures refused { IsSome (verdict_of by_number (state_of self.old).records session
             (holds_target (state_of self.old).locks session (command_of command.now))
             (command_of command.now)) → IsOk result }
         ensures err { OnErr result (IsAsBefore self.old self.new) }

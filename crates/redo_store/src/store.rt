@@ -1,11 +1,10 @@
 ghost use Rattle.std.specs.Prelude.{◌≡◌, ◌+◌, ◌^◌, ◌<◌, Some, None, option_map, IsTrue, IsFalse, true, false, IfOk, IsOk, IsSome};
-ghost use Rattle.redo_model.specs.State.{empty, is_building, target_state};
+ghost use Rattle.redo_model.specs.Names.{by_number};
+ghost use Rattle.redo_model.specs.State.{is_building, target_state};
 ghost use Rattle.redo_model.specs.Command as commands;
 ghost use Rattle.redo_model.specs.Command.{asked_lock};
 ghost use Rattle.redo_model.specs.Step.{Replies, Tells, verdict_of};
 ghost use Rattle.redo_model.specs.Renaming.{IsBelow, IsReplyBelow};
-ghost use Rattle.redo_order.specs.Orders.{AreRanks};
-ghost use Rattle.redo_order.specs.Inside.Orders.{IsOrderOf};
 ghost use Rattle.redo_terms.specs.Meaning.{command_of, reply_of, refusal_of};
 
 use crate::table::{answer, answers, effect, effects};
@@ -32,9 +31,6 @@ pub struct Store {
     rows: DepRows,
     // what is out of date by the records and the rows
     memo: Ood,
-    // the names in order, and the place of each among them
-    sorted: Vec<u32>,
-    ranks: Vec<u32>,
     applied: u32,
 }
 
@@ -52,35 +48,8 @@ impl Model for Store {
 
 impl Store {
     ghost use Rattle.redo_store.specs.Inside.Changes.{HasEffect};
-    ghost use Rattle.redo_store.specs.Stored.{records_of, order_of, naming_of, count_of, applied_of, has_room_for, lists_names};
+    ghost use Rattle.redo_store.specs.Stored.{records_of, count_of, applied_of, has_room_for, lists_names};
     ghost use Rattle.redo_store.specs.Inside.Stored.{HasBuildsLeft, KeepsNames};
-
-    /// The empty store for as many names, in this order.
-    fn with_order(
-        alloc: Global,
-        count: u32,
-        sorted: Vec<u32>,
-        ranks: Vec<u32>,
-    ) -> Result<Store, AllocError>
-        requires order { IsOrderOf count sorted.items }
-        requires ranks { AreRanks sorted.items ranks.items }
-        ensures empty { IfOk result (λ store. records_of store ≡ empty.records) }
-        ensures count { IfOk result (λ store. count_of store ≡ count) }
-        ensures sorted { IfOk result (λ store. store.sorted ≡ sorted.items) }
-        ensures applied { IfOk result (λ store. applied_of store ≡ 0) }
-    {
-        let records = Records::new(alloc, count)?;
-        let rows = DepRows::new(alloc, count)?;
-        let memo = Ood::new(alloc, count)?;
-        Ok(Store {
-            records,
-            rows,
-            memo,
-            sorted,
-            ranks,
-            applied: 0,
-        })
-    }
 
     /// The reply to a session's command, which is no lock. Only the lists of names allocate, and a refusal doesn't.
     pub fn reply(
@@ -92,11 +61,11 @@ impl Store {
     ) -> Result<Reply, AllocError>
         requires numbers { IsBelow (count_of self.now) (command_of command.now) }
         requires no_lock { asked_lock (command_of command.now) ≡ None }
-        ensures replies { IfOk result (λ reply. Replies (naming_of self.now) (records_of self.now)
-            s holds (command_of command.now) (reply_of reply)) }
+        ensures replies { IfOk result (λ reply. Replies by_number (records_of self.now) s holds
+            (command_of command.now) (reply_of reply)) }
         ensures below { IfOk result (λ reply. IsReplyBelow (count_of self.now) (reply_of reply)) }
         ensures ok { lists_names (command_of command.now) ≡ false → IsOk result }
-        ensures refused { IsSome (verdict_of (naming_of self.now) (records_of self.now) s holds
+        ensures refused { IsSome (verdict_of by_number (records_of self.now) s holds
             (command_of command.now)) → IsOk result }
     {
         match self.refusal(s, command, holds) {
@@ -109,13 +78,12 @@ impl Store {
     pub(crate) fn apply_accepted(&mut self, s: u16, command: &Command)
         requires numbers { IsBelow (count_of self.old) (command_of command.now) }
         requires applied { applied_of self.old + 1 < 2 ^ 32 }
-        requires accepted { verdict_of (naming_of self.old) (records_of self.old) s true
+        requires accepted { verdict_of by_number (records_of self.old) s true
             (command_of command.now) ≡ None }
         requires room { has_room_for self.old (command_of command.now) ≡ true }
         ensures after { HasEffect self.old self.new s (command_of command.now) }
         ensures applied { applied_of self.new ≡ applied_of self.old + 1 }
         ensures count { count_of self.new ≡ count_of self.old }
-        ensures order { order_of self.new ≡ order_of self.old }
     {
         self.count_applied();
         self.obey(s, command);
@@ -124,8 +92,8 @@ impl Store {
     /// The first refusal that applies.
     fn refusal(&self, s: u16, command: &Command, holds: bool) -> Option<Refusal>
         requires { IsBelow (count_of self.now) (command_of command.now) }
-        ensures { option_map refusal_of result ≡ verdict_of (naming_of self.now)
-            (records_of self.now) s holds (command_of command.now) }
+        ensures { option_map refusal_of result
+            ≡ verdict_of by_number (records_of self.now) s holds (command_of command.now) }
     {
         let t = command.target()?;
         match self.records.verdict(s, command.kind(), t, holds) {
@@ -138,7 +106,7 @@ impl Store {
     fn answer(&self, alloc: Global, command: &Command) -> Result<Reply, AllocError>
         requires numbers { IsBelow (count_of self.now) (command_of command.now) }
         requires no_lock { asked_lock (command_of command.now) ≡ None }
-        ensures tells { IfOk result (λ reply. Tells (naming_of self.now) (records_of self.now)
+        ensures tells { IfOk result (λ reply. Tells by_number (records_of self.now)
             (command_of command.now) (reply_of reply)) }
         ensures below { IfOk result (λ reply. IsReplyBelow (count_of self.now) (reply_of reply)) }
         ensures ok { lists_names (command_of command.now) ≡ false → IsOk result }
@@ -157,7 +125,7 @@ impl Store {
     /// Makes the change of an accepted command, which is counted already.
     fn obey(&mut self, s: u16, command: &Command)
         requires numbers { IsBelow (count_of self.old) (command_of command.now) }
-        requires accepted { verdict_of (naming_of self.old) (records_of self.old) s true
+        requires accepted { verdict_of by_number (records_of self.old) s true
             (command_of command.now) ≡ None }
         requires builds { HasBuildsLeft self.old }
         requires room { has_room_for self.old (command_of command.now) ≡ true }

@@ -2,7 +2,7 @@
 use Rattle.std.specs.Prelude.{◌≡◌, ℕ, ◌+◌, ◌*◌, ◌^◌, ◌≤◌, List, ◌++◌, Some, length, true, ⊤}
 use Rattle.std.specs.List.{flat_map}
 use Rattle.redo_names.specs.Inside.Names.{AreNames}
-use Rattle.redo_model.specs.Names.{Text, texts, text_at}
+use Rattle.redo_model.specs.Names.{Text, texts, text_at, by_number}
 use Rattle.redo_model.specs.Command.{Command}
 use Rattle.redo_model.specs.History.{Line}
 use Rattle.redo_model.specs.Renaming.{IsBelow, named_command}
@@ -15,7 +15,6 @@ use Rattle.redo_text.specs.declared.fault.ReadFault.{ReadFault}
 use Rattle.redo_text.specs.declared.fault.ReadFault.TheVariants as read
 use Rattle.redo_store.specs.Stored.{has_room_for}
 use Rattle.redo_store.specs.Tables.{state_of, tables_count}
-use Rattle.redo_store.specs.Inside.Tables.{tables_naming}
 use Rattle.redo_history.specs.Histories.{line_text_of}
 use Rattle.redo_live.specs.Inside.Answered.{IsAnswered, logged_text}
 use Rattle.redo_live.specs.Inside.Ended.{IsEnded, end_text}
@@ -48,8 +47,8 @@ pub record IsDue (live : LiveState) (line : LineOfNumbers) (reply : ReplyOfNumbe
   pub count : length live.names ≤ tables_count live.tables
   pub below : IsBelow (length live.names) (command_of line.command)
   pub room : has_room_for live.tables.store (command_of line.command) ≡ true
-  pub answers : Answers (tables_naming live.tables) (state_of live.tables) line.session
-      (command_of line.command) (reply_of reply)
+  pub answers : Answers by_number (state_of live.tables) line.session (command_of line.command)
+      (reply_of reply)
   pub sorted : IsSortedReply (by_text live.names).order (reply_of reply) (reply_of line.reply)
 
 -- the line has the database's reply to the session's command, with its names in the order of their
@@ -58,8 +57,7 @@ pub record IsTold (live : LiveState) (session : ℕ) (command : Command ℕ) (li
     (reply : ReplyOfNumbers) (text : Text) : Type 0 where
   pub session_is : line.session ≡ session
   pub command_is : command_of line.command ≡ command
-  pub answers : Answers (tables_naming live.tables) (state_of live.tables) session command
-      (reply_of reply)
+  pub answers : Answers by_number (state_of live.tables) session command (reply_of reply)
   pub sorted : IsSortedReply (by_text live.names).order (reply_of reply) (reply_of line.reply)
   pub text_is : text ≡ line_text_of (line_at live.names line)
 

@@ -2,7 +2,7 @@
 ghost use Rattle.std.specs.Prelude.{◌≡◌, ◌↔◌, ℕ, ◌+◌, ◌^◌, ◌<◌, ◌≤◌, ◌++◌, [], Some, Contains, cond, length, map, IfOk, IfErr, OnOk, OnErr};
 ghost use Rattle.std.specs.List.{AllByRecursion, flat_map};
 ghost use Rattle.std.specs.List.Sorted.{IsStrictlyIncreasing};
-ghost use Rattle.redo_model.specs.Names.{Text};
+ghost use Rattle.redo_model.specs.Names.{Text, by_number};
 ghost use Rattle.redo_model.specs.State.{Building, target_state};
 ghost use Rattle.redo_model.specs.Command as commands;
 ghost use Rattle.redo_model.specs.History.{LegalFrom, left_by};
@@ -10,7 +10,6 @@ ghost use Rattle.redo_model.specs.Inside.Ending.{okay_line};
 ghost use Rattle.redo_model.specs.Renaming.{IsBelow};
 ghost use Rattle.redo_terms.specs.Meaning.{command_of, line_of, line_at};
 ghost use Rattle.redo_store.specs.Tables.{state_of, tables_count, calls_of};
-ghost use Rattle.redo_store.specs.Inside.Tables.{tables_naming};
 ghost use Rattle.redo_history.specs.Histories.{line_text_of};
 ghost use Rattle.redo_history.specs.Recorded.{AreLinesBelow};
 ghost use Rattle.redo_live.specs.Inside.Ended.{end_text};
@@ -82,10 +81,9 @@ fn close(redo: &mut Redo, lines: &[Line])
         (λ line. IsBelow (tables_count redo.old) (command_of line.command)) lines.now }
     requires room { AllByRecursion (λ line. TakesNoRoom (command_of line.command)) lines.now }
     requires calls { calls_of redo.old + length lines.now < 2 ^ 32 }
-    requires legal { LegalFrom (tables_naming redo.old) (state_of redo.old)
-        (map line_of lines.now) }
+    requires legal { LegalFrom by_number (state_of redo.old) (map line_of lines.now) }
     ensures left { state_of redo.new
-        ≡ left_by (tables_naming redo.old) (state_of redo.old) (map line_of lines.now) }
+        ≡ left_by by_number (state_of redo.old) (map line_of lines.now) }
     ensures calls { calls_of redo.new ≡ calls_of redo.old + length lines.now }
     ensures count { tables_count redo.new ≡ tables_count redo.old }
 {

@@ -29,3 +29,9 @@ pub record IsFit (graph : GraphOf) (cells : List CompactCell) (rows : List Row) 
   pub linked : IsLinked (length cells) graph
   pub entries : HaveEntries graph.tables cells
   pub marks : HaveMarks graph.tables rows
+
+-- what a walk reads: the graph, the cells of its names and the rows of its pairs
+pub record DatabaseOf : Type 0 where
+  pub graph : GraphOf
+  pub cells : List CompactCell
+  pub rows : List Row

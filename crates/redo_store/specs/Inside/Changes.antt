@@ -5,12 +5,12 @@ use Rattle.redo_model.specs.Names.{Text, by_number}
 use Rattle.redo_model.specs.State.{Cell, Records}
 use Rattle.redo_model.specs.Step.{effect_of, with_cell}
 use Rattle.redo_records.specs.Rows.{TargetRows, with_rows}
-use Rattle.redo_store.specs.Stored.{Stored, records_of, naming_of}
+use Rattle.redo_store.specs.Stored.{Stored, records_of}
 
 -- the records of the new store are the effect of the session's command on those of the old
 abbrev pub HasEffect : Stored → Stored → ℕ → Command ℕ → Type 0
 HasEffect old new s command =
-    records_of new ≡ effect_of (naming_of old) (records_of old) s command
+    records_of new ≡ effect_of by_number (records_of old) s command
 
 -- the same whichever session gives the command
 abbrev pub HasEffectOfAny : Stored → Stored → Command ℕ → Type 0
@@ -25,4 +25,4 @@ pub record AreRowsAfter (cells : List Cell) (old new : List TargetRows)
 -- the store's records, with this file of the name, or with none
 abbrev pub records_with_file : Stored → ℕ → Option Text → Records ℕ
 records_with_file old n file =
-    with_cell (naming_of old) (records_of old) n (record ((records_of old).cell n) { file = file })
+    with_cell by_number (records_of old) n (record ((records_of old).cell n) { file = file })

@@ -1,12 +1,8 @@
 -- The value of the one-thread database.
 use Rattle.std.specs.Prelude.{ℕ, ◌<◌, ◌^◌, Option, None, Some, slice_index, ◌≡◌, ◌≤◌, length}
-use Rattle.redo_model.specs.Names.{Naming, numbers}
 use Rattle.redo_model.specs.Command.{Command, Unlock}
 use Rattle.redo_model.specs.Reply.{Reply, Okay}
-use Rattle.redo_store.specs.Tables.{Tables, tables_order, tables_count}
-
-abbrev pub tables_naming : Tables → Naming ℕ
-tables_naming tables = numbers (tables_order tables)
+use Rattle.redo_store.specs.Tables.{Tables, tables_count}
 
 -- the counts of grants and of applied commands are below the calls
 pub record HasCallsLeft (tables : Tables) : Type 0 where

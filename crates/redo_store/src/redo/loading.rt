@@ -1,11 +1,10 @@
 //! A database that is made from its parts.
 ghost use Rattle.std.specs.Prelude.{◌≡◌, ℕ, ◌<◌, Some, max, length, slice_set, IfOk, OnOk, OnErr};
 ghost use Rattle.redo_model.specs.State.{Building, empty, mark_in, target_state};
-ghost use Rattle.redo_order.specs.Orders.{IsByNumber};
 ghost use Rattle.redo_records.specs.Cells.{cell_at, with_cell_at};
 ghost use Rattle.redo_records.specs.Meaning.{row_mark_of};
 ghost use Rattle.redo_records.specs.Rows.{rows_of, with_always, with_change, with_created};
-ghost use Rattle.redo_store.specs.Tables.{state_of, tables_records, locks_of, tables_order, tables_count, calls_of};
+ghost use Rattle.redo_store.specs.Tables.{state_of, tables_records, locks_of, tables_count, calls_of};
 
 use crate::redo::Redo;
 use crate::store::Store;
@@ -110,6 +109,21 @@ impl Loading {
         self.records.mark(n)
     }
 
+    /// Reserves memory for so many rows of `t`, if it has none yet. This changes nothing.
+    pub fn reserve(&mut self, t: u32, count: usize) -> Result<(), AllocError>
+        requires { t < parts_count self.old }
+        ensures { self.new ≡ self.old }
+    {
+        self.rows.reserve_first(t, count)
+    }
+
+    /// Where the slot is that `t` got last, if names come in ascending order.
+    fn last_slot(&self, t: u32) -> usize
+        requires { t < parts_count self.now }
+    {
+        self.rows.slots_of(t).len().saturating_sub(1)
+    }
+
     /// A change row of `t` on `n` with this mark, which replaces an earlier one.
     pub fn put_change(&mut self, t: u32, n: u32, mark: Mark) -> Result<(), AllocError>
         requires target { t < parts_count self.old }
@@ -120,7 +134,8 @@ impl Loading {
         ensures same { AreSameButRows self.old self.new }
     {
         self.rows.reserve(t, &[n])?;
-        self.rows.put_change(t, n, &Cell::of_mark(mark), 0);
+        let place = self.last_slot(t);
+        self.rows.put_change(t, n, &Cell::of_mark(mark), place);
         Ok(())
     }
 
@@ -147,12 +162,10 @@ impl Loading {
         self.rows.put_always(t);
     }
 
-    /// The database with these parts, whose numbers are in their own order. It has answered as many calls as the most
-    /// that a name was built or granted.
+    /// The database with these parts. It has answered as many calls as the most that a name was built or granted.
     pub fn finish(self, alloc: Global) -> Result<Redo, AllocError>
         ensures state { IfOk result (λ redo. state_of redo ≡ state_made self) }
         ensures count { IfOk result (λ redo. tables_count redo ≡ parts_count self) }
-        ensures order { IfOk result (λ redo. IsByNumber (parts_count self) (tables_order redo)) }
         ensures calls { IfOk result (λ redo. calls_of redo ≡ self.most) }
         ensures builders { IfOk result (λ redo. (t s : ℕ)
             → target_state (tables_records redo) t ≡ Building s

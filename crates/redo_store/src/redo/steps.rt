@@ -1,6 +1,6 @@
 //! The three steps of a call: the reply, reserving memory, and the change.
 ghost use Rattle.std.specs.Prelude.{◌≡◌, ℕ, ◌+◌, ◌^◌, ◌<◌, Some, None, true, slice_set, IfOk, IsOk, IsSome, OnOk};
-ghost use Rattle.redo_model.specs.Names.{numbers};
+ghost use Rattle.redo_model.specs.Names.{by_number};
 ghost use Rattle.redo_model.specs.Command as commands;
 ghost use Rattle.redo_model.specs.Command.{asked_lock};
 ghost use Rattle.redo_model.specs.Reply.{lets_through};
@@ -8,8 +8,8 @@ ghost use Rattle.redo_model.specs.Step.{Answers, after, is_held_by, holds_target
 ghost use Rattle.redo_model.specs.Renaming.{IsBelow, IsReplyBelow};
 ghost use Rattle.redo_terms.specs.Meaning.{command_of, reply_of};
 ghost use Rattle.redo_store.specs.Stored.{has_room_for};
-ghost use Rattle.redo_store.specs.Tables.{state_of, tables_records, locks_of, tables_order, tables_count, calls_of, IsAsBefore};
-ghost use Rattle.redo_store.specs.Inside.Tables.{freed_by, tables_naming, HasCallsLeft};
+ghost use Rattle.redo_store.specs.Tables.{state_of, tables_records, locks_of, tables_count, calls_of, IsAsBefore};
+ghost use Rattle.redo_store.specs.Inside.Tables.{freed_by, HasCallsLeft};
 
 use crate::redo::Redo;
 use redo_terms::{Command, Reply};
@@ -40,13 +40,12 @@ impl Redo {
     pub fn reply(&self, alloc: Global, session: u16, command: &Command) -> Result<Reply, AllocError>
         requires numbers { IsBelow (tables_count self.now) (command_of command.now) }
         requires calls { calls_of self.now + 1 < 2 ^ 32 }
-        ensures answers { IfOk result (λ reply. Answers (numbers (tables_order self.now))
-            (state_of self.now) session (command_of command.now) (reply_of reply)) }
+        ensures answers { IfOk result (λ reply. Answers by_number (state_of self.now) session
+            (command_of command.now) (reply_of reply)) }
         ensures below { IfOk result
             (λ reply. IsReplyBelow (tables_count self.now) (reply_of reply)) }
         ensures lock { IsSome (asked_lock (command_of command.now)) → IsOk result }
-        ensures refused { IsSome (verdict_of (numbers (tables_order self.now))
-            (state_of self.now).records session
+        ensures refused { IsSome (verdict_of by_number (state_of self.now).records session
             (holds_target (state_of self.now).locks session (command_of command.now))
             (command_of command.now)) → IsOk result }
     {
@@ -75,13 +74,12 @@ impl Redo {
         requires numbers { IsBelow (tables_count self.old) (command_of command.now) }
         requires calls { calls_of self.old + 1 < 2 ^ 32 }
         requires room { has_room_for self.old.store (command_of command.now) ≡ true }
-        requires answers { Answers (numbers (tables_order self.old)) (state_of self.old) session
+        requires answers { Answers by_number (state_of self.old) session
             (command_of command.now) (reply_of reply.now) }
-        ensures after { state_of self.new ≡ after (numbers (tables_order self.old))
-            (state_of self.old) session (command_of command.now) }
+        ensures after { state_of self.new
+            ≡ after by_number (state_of self.old) session (command_of command.now) }
         ensures calls { calls_of self.new ≡ calls_of self.old + 1 }
         ensures count { tables_count self.new ≡ tables_count self.old }
-        ensures order { tables_order self.new ≡ tables_order self.old }
     {
         self.count_call();
         if reply.lets_through() {
@@ -100,8 +98,8 @@ impl Redo {
     fn lock_reply(&self, t: u32) -> Reply
         requires number { t < tables_count self.now }
         requires calls { calls_of self.now + 1 < 2 ^ 32 }
-        ensures answers { (session : ℕ) → Answers (tables_naming self.now) (state_of self.now)
-            session (commands.Lock t) (reply_of result) }
+        ensures answers { (session : ℕ) → Answers by_number (state_of self.now) session
+            (commands.Lock t) (reply_of result) }
         ensures below { IsReplyBelow (tables_count self.now) (reply_of result) }
     {
         let granted = self.grants[t as usize];
@@ -136,14 +134,13 @@ impl Redo {
         requires numbers { IsBelow (tables_count self.old) (command_of command.now) }
         requires room { has_room_for self.old.store (command_of command.now) ≡ true }
         requires left { HasCallsLeft self.old }
-        requires answers { Answers (tables_naming self.old) (state_of self.old) session
+        requires answers { Answers by_number (state_of self.old) session
             (command_of command.now) (reply_of reply.now) }
         requires accepted { lets_through (reply_of reply.now) ≡ true }
         ensures after { state_of self.new
-            ≡ after (tables_naming self.old) (state_of self.old) session (command_of command.now) }
+            ≡ after by_number (state_of self.old) session (command_of command.now) }
         ensures calls { calls_of self.new ≡ calls_of self.old }
         ensures count { tables_count self.new ≡ tables_count self.old }
-        ensures order { tables_order self.new ≡ tables_order self.old }
     {
         match asked_lock(command) {
             Some(t) => self.grant(session, t),
@@ -162,10 +159,9 @@ impl Redo {
         requires free { (locks_of self.old).holder t ≡ None }
         requires left { HasCallsLeft self.old }
         ensures after { state_of self.new
-            ≡ after (tables_naming self.old) (state_of self.old) session (commands.Lock t) }
+            ≡ after by_number (state_of self.old) session (commands.Lock t) }
         ensures calls { calls_of self.new ≡ calls_of self.old }
         ensures count { tables_count self.new ≡ tables_count self.old }
-        ensures order { tables_order self.new ≡ tables_order self.old }
     {
         let at = t as usize;
         self.holders[at] = Some(session);

@@ -1,4 +1,4 @@
-ghost use Rattle.std.specs.Prelude.{◌≡◌, ◌<◌, ◌↔◌, ◌++◌, ◌∷◌, [], ℕ, IsTrue, IsNone, IfOk, OnOk, Contains, if◌then◌else◌};
+ghost use Rattle.std.specs.Prelude.{◌≡◌, ◌<◌, ◌↔◌, ◌++◌, ◌∷◌, [], ℕ, IsTrue, IsNone, IfOk, OnOk, if◌then◌else◌};
 ghost use Rattle.redo_model.specs.Command as commands;
 ghost use Rattle.redo_model.specs.Names.{IsListed, by_number};
 ghost use Rattle.redo_model.specs.State.{Idle, has_file, is_building, target_state};
@@ -7,12 +7,10 @@ ghost use Rattle.redo_model.specs.OutOfDate.{HasFile, IsTarget, OutOfDate, IsSou
 ghost use Rattle.redo_model.specs.Step.{Tells, stale_reply};
 ghost use Rattle.redo_model.specs.Renaming.{AllBelow, IsReplyBelow};
 ghost use Rattle.redo_terms.specs.Meaning.{reply_of};
-ghost use Rattle.redo_store.specs.Stored.{records_of, naming_of, count_of};
-ghost use Rattle.redo_order.specs.Inside.Orders.{AreInOrder, ArePlaces};
+ghost use Rattle.redo_store.specs.Stored.{records_of, count_of};
 ghost use Rattle.redo_store.specs.Inside.Stored.{IsStored};
 
 use crate::store::Store;
-use redo_order::{in_order, names_at};
 use redo_records::State;
 use redo_terms::{FileStamp, Reply};
 use std::alloc::{AllocError, Global};
@@ -40,8 +38,8 @@ impl Store {
     /// Which of the names are stale, if any.
     pub(crate) fn stale_reply(&self, alloc: Global, names: &[u32]) -> Result<Reply, AllocError>
         requires { AllBelow (count_of self.now) names.now }
-        ensures tells { IfOk result (λ reply. (t : ℕ) → Tells (naming_of self.now)
-            (records_of self.now) (commands.IfChange t names.now) (reply_of reply)) }
+        ensures tells { IfOk result (λ reply. (t : ℕ) → Tells by_number (records_of self.now)
+            (commands.IfChange t names.now) (reply_of reply)) }
         ensures below { IfOk result (λ reply. IsReplyBelow (count_of self.now) (reply_of reply)) }
     {
         Ok(reply_to_ifchange(self.stale(alloc, names)?))
@@ -49,8 +47,8 @@ impl Store {
 
     /// The targets that have a file and are out of date.
     pub(crate) fn ood_reply(&self, alloc: Global) -> Result<Reply, AllocError>
-        ensures tells { IfOk result (λ reply. Tells (naming_of self.now)
-            (records_of self.now) commands.Ood (reply_of reply)) }
+        ensures tells { IfOk result (λ reply. Tells by_number (records_of self.now) commands.Ood
+            (reply_of reply)) }
         ensures below { IfOk result (λ reply. IsReplyBelow (count_of self.now) (reply_of reply)) }
     {
         Ok(Reply::Ood(self.ood(alloc)?))
@@ -58,8 +56,8 @@ impl Store {
 
     /// The idle names that have a file and on which a target has a row.
     pub(crate) fn sources_reply(&self, alloc: Global) -> Result<Reply, AllocError>
-        ensures tells { IfOk result (λ reply. Tells (naming_of self.now)
-            (records_of self.now) commands.Sources (reply_of reply)) }
+        ensures tells { IfOk result (λ reply. Tells by_number (records_of self.now)
+            commands.Sources (reply_of reply)) }
         ensures below { IfOk result (λ reply. IsReplyBelow (count_of self.now) (reply_of reply)) }
     {
         Ok(Reply::Sources(self.sources(alloc)?))
@@ -67,22 +65,26 @@ impl Store {
 
     /// The targets that have a file.
     pub(crate) fn targets_reply(&self, alloc: Global) -> Result<Reply, AllocError>
-        ensures tells { IfOk result (λ reply. Tells (naming_of self.now)
-            (records_of self.now) commands.Targets (reply_of reply)) }
+        ensures tells { IfOk result (λ reply. Tells by_number (records_of self.now)
+            commands.Targets (reply_of reply)) }
         ensures below { IfOk result (λ reply. IsReplyBelow (count_of self.now) (reply_of reply)) }
     {
         Ok(Reply::Targets(self.targets(alloc)?))
     }
 
     fn ood(&self, alloc: Global) -> Result<Vec<u32>, AllocError>
-        ensures { IfOk result (λ names. AreInOrder self.now.sorted (count_of self.now)
+        ensures listed { IfOk result (λ names. IsListed by_number
             (λ t. HasFile (records_of self.now) t × OutOfDate (records_of self.now) t)
             names.items) }
+        ensures below { IfOk result (λ names. AllBelow (count_of self.now) names.items) }
     {
-        let ranks = self.ood_ranks(alloc)?;
-        let places = in_order(ranks);
-        let all = self.sorted();
-        names_at(alloc, all, &places)
+        let out = self.outdated(alloc)?;
+        let mut names = Vec::new(alloc);
+        for &n in &out {
+            let is_due = self.has_file(n);
+            push_if(&mut names, n, is_due)?;
+        }
+        Ok(names)
     }
 
     /// The out-of-date targets, by ascending number.
@@ -94,28 +96,13 @@ impl Store {
         self.memo.list(alloc)
     }
 
-    /// The ranks of the out-of-date targets with a file.
-    fn ood_ranks(&self, alloc: Global) -> Result<Vec<u32>, AllocError>
-        ensures { IfOk result (λ ranks. ArePlaces self.now.sorted
-            (λ t. HasFile (records_of self.now) t × OutOfDate (records_of self.now) t)
-            (Contains ranks.items)) }
-    {
-        let out = self.outdated(alloc)?;
-        let mut ranks = Vec::new(alloc);
-        for &n in &out {
-            let rank = self.rank(n);
-            let is_due = self.has_file(n);
-            push_if(&mut ranks, rank, is_due)?;
-        }
-        Ok(ranks)
-    }
-
     fn sources(&self, alloc: Global) -> Result<Vec<u32>, AllocError>
-        ensures { IfOk result (λ names. AreInOrder self.now.sorted (count_of self.now)
-            (IsSource (records_of self.now)) names.items) }
+        ensures listed { IfOk result
+            (λ names. IsListed by_number (IsSource (records_of self.now)) names.items) }
+        ensures below { IfOk result (λ names. AllBelow (count_of self.now) names.items) }
     {
         let mut names = Vec::new(alloc);
-        for &n in self.sorted() {
+        for n in 0..self.count() {
             let is_due = self.is_source(n);
             push_if(&mut names, n, is_due)?;
         }
@@ -123,11 +110,13 @@ impl Store {
     }
 
     fn targets(&self, alloc: Global) -> Result<Vec<u32>, AllocError>
-        ensures { IfOk result (λ names. AreInOrder self.now.sorted (count_of self.now)
-            (λ t. HasFile (records_of self.now) t × IsTarget (records_of self.now) t) names.items) }
+        ensures listed { IfOk result (λ names. IsListed by_number
+            (λ t. HasFile (records_of self.now) t × IsTarget (records_of self.now) t)
+            names.items) }
+        ensures below { IfOk result (λ names. AllBelow (count_of self.now) names.items) }
     {
         let mut names = Vec::new(alloc);
-        for &n in self.sorted() {
+        for n in 0..self.count() {
             let is_due = self.is_listed(n);
             push_if(&mut names, n, is_due)?;
         }
@@ -240,13 +229,5 @@ impl Store {
         ensures stored { IsStored self.now }
     {
         self.records.count() as u32
-    }
-
-    /// The numbers of all names, in order.
-    pub(super) fn sorted(&self) -> &[u32]
-        ensures sorted { result.now ≡ self.now.sorted }
-        ensures stored { IsStored self.now }
-    {
-        &self.sorted
     }
 }

@@ -1,20 +1,24 @@
 //! A store over given records and rows.
 
-ghost use Rattle.std.specs.Prelude.{◌≡◌, ℕ, ◌<◌, ◌^◌, ◌≤◌, length, IfOk};
-ghost use Rattle.redo_order.specs.Orders.{IsByNumber};
+ghost use Rattle.std.specs.Prelude.{◌≡◌, ℕ, ◌<◌, ◌^◌, ◌≤◌, ◌↔◌, Contains, length, IfOk};
 ghost use Rattle.redo_records.specs.Cells.{cell_at};
 ghost use Rattle.redo_records.specs.Rows.{rows_count, with_rows};
-ghost use Rattle.redo_store.specs.Stored.{records_of, order_of, count_of, applied_of};
+ghost use Rattle.redo_store.specs.Stored.{records_of, count_of, applied_of};
 
 use crate::store::Store;
 use redo_ood::Ood;
-use redo_order::numbers_below;
 use redo_records::{DepRows, Records};
 use std::alloc::{AllocError, Global};
 
+/// All numbers below the count.
+fn all_numbers(alloc: Global, count: u32) -> Result<Vec<u32>, AllocError>
+    ensures { IfOk result (λ numbers. (n : ℕ) → Contains numbers.items n ↔ (n < count)) }
+{
+    (0..count).collect(alloc)
+}
+
 impl Store {
-    /// The store with these records and rows, whose numbers are in their own order. No name was built more often than
-    /// `applied` commands were applied.
+    /// The store with these records and rows. No name was built more often than `applied` commands were applied.
     pub fn loaded(
         alloc: Global,
         records: Records,
@@ -26,20 +30,16 @@ impl Store {
         requires builds { (n : ℕ) → (cell_at records n).builds ≤ applied }
         ensures records { IfOk result (λ store. records_of store ≡ with_rows records rows) }
         ensures count { IfOk result (λ store. count_of store ≡ length records) }
-        ensures order { IfOk result (λ store. IsByNumber (length records) (order_of store)) }
         ensures applied { IfOk result (λ store. applied_of store ≡ applied) }
     {
         let count = records.count() as u32;
-        let sorted = numbers_below(alloc, count)?;
-        let ranks = numbers_below(alloc, count)?;
+        let all = all_numbers(alloc, count)?;
         let mut memo = Ood::new(alloc, count)?;
-        memo.refresh(&records, &rows, &sorted);
+        memo.refresh(&records, &rows, &all);
         Ok(Store {
             records,
             rows,
             memo,
-            sorted,
-            ranks,
             applied,
         })
     }

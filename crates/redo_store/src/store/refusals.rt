@@ -1,10 +1,11 @@
 ghost use Rattle.std.specs.Prelude.{◌≡◌, ◌==◌, find, option_map};
 ghost use Rattle.std.specs.List.{list_any};
+ghost use Rattle.redo_model.specs.Names.{by_number};
 ghost use Rattle.redo_model.specs.State.{has_file};
 ghost use Rattle.redo_model.specs.Renaming.{AllBelow, IsBelow};
 ghost use Rattle.redo_terms.specs.Meaning.{command_of, refusal_of};
 ghost use Rattle.redo_records.specs.Refusals.{refusal_of_names};
-ghost use Rattle.redo_store.specs.Stored.{records_of, naming_of, count_of};
+ghost use Rattle.redo_store.specs.Stored.{records_of, count_of};
 
 use crate::store::Store;
 use crate::table::{first_refusal_of_names, refusals_of_names, refuse_names_unless};
@@ -21,7 +22,7 @@ impl Store {
     pub(crate) fn refusal_of_names(&self, command: &Command) -> Option<Refusal>
         requires { IsBelow (count_of self.now) (command_of command.now) }
         ensures { option_map refusal_of result
-            ≡ refusal_of_names (naming_of self.now) (records_of self.now) (command_of command.now) }
+            ≡ refusal_of_names by_number (records_of self.now) (command_of command.now) }
     {
         cases!(refusals_of_names self command)
     }

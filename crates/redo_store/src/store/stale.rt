@@ -1,50 +1,38 @@
-ghost use Rattle.std.specs.Prelude.{◌≡◌, ◌<◌, ◌↔◌, IsTrue, IfOk, Contains, length, slice_index};
+ghost use Rattle.std.specs.Prelude.{◌<◌, ◌↔◌, ℕ, IsTrue, IfOk, Contains};
+ghost use Rattle.redo_model.specs.Names.{IsListed, by_number};
 ghost use Rattle.redo_model.specs.OutOfDate.{IsStale};
 ghost use Rattle.redo_model.specs.Renaming.{AllBelow};
-ghost use Rattle.redo_order.specs.Inside.Orders.{AreInOrder, ArePlaces};
 ghost use Rattle.redo_store.specs.Stored.{count_of, records_of};
 
 use crate::store::Store;
 use crate::store::lists::push_if;
-use redo_order::{in_order, names_at};
+use redo_order::in_order;
 use std::alloc::{AllocError, Global};
 
 impl Store {
-    /// The stale ones of the names, each once, in order.
+    /// The stale ones of the names, each once, by ascending number.
     pub(super) fn stale(&self, alloc: Global, names: &[u32]) -> Result<Vec<u32>, AllocError>
         requires { AllBelow (count_of self.now) names.now }
-        ensures { IfOk result (λ stale. AreInOrder self.now.sorted (count_of self.now)
+        ensures listed { IfOk result (λ stale. IsListed by_number
             (λ n. Contains names.now n × IsStale (records_of self.now) n) stale.items) }
+        ensures below { IfOk result (λ stale. AllBelow (count_of self.now) stale.items) }
     {
-        let ranks = self.stale_ranks(alloc, names)?;
-        let places = in_order(ranks);
-        let all = self.sorted();
-        names_at(alloc, all, &places)
+        let stale = self.stale_among(alloc, names)?;
+        Ok(in_order(stale))
     }
 
-    /// The ranks of the stale ones of the names.
-    fn stale_ranks(&self, alloc: Global, names: &[u32]) -> Result<Vec<u32>, AllocError>
+    /// The stale ones of the names, as often as they are named.
+    fn stale_among(&self, alloc: Global, names: &[u32]) -> Result<Vec<u32>, AllocError>
         requires { AllBelow (count_of self.now) names.now }
-        ensures { IfOk result (λ ranks. ArePlaces self.now.sorted
-            (λ n. Contains names.now n × IsStale (records_of self.now) n) (Contains ranks.items)) }
+        ensures { IfOk result (λ stale. (n : ℕ) → Contains stale.items n
+            ↔ (Contains names.now n × IsStale (records_of self.now) n)) }
     {
-        let mut ranks = Vec::new(alloc);
+        let mut stale = Vec::new(alloc);
         for &n in names {
-            let rank = self.rank(n);
             let is_due = self.is_stale(n);
-            push_if(&mut ranks, rank, is_due)?;
+            push_if(&mut stale, n, is_due)?;
         }
-        Ok(ranks)
-    }
-
-    /// The place of the name in the order.
-    pub(super) fn rank(&self, n: u32) -> u32
-        requires { n < count_of self.now }
-        ensures below { result < length self.now.sorted }
-        ensures few { result < count_of self.now }
-        ensures at { slice_index self.now.sorted result ≡ n }
-    {
-        self.ranks[n as usize]
+        Ok(stale)
     }
 
     /// Whether it is an out-of-date target, or an idle name without a file.

@@ -1,12 +1,11 @@
 use Rattle.std.proofs.Common.{◌≡◌, ◌+◌, ◌^◌, ◌<◌, ◌++◌, List, length, length-append, map, sym, ap, ◌∙◌, subst, arith, rules, vec_len}
 use Rattle.std.specs.List.{AllByRecursion, flat_map}
-use Rattle.redo_model.specs.Names.{Text}
+use Rattle.redo_model.specs.Names.{Text, by_number}
 use Rattle.redo_model.specs.History.{LegalFrom, left_by}
 use Rattle.redo_model.specs.Renaming.{IsBelow}
 use Rattle.redo_terms.specs.Meaning.{command_of, line_of, line_at}
 use Rattle.redo_terms.specs.declared.reply.Line.{Line}
 use Rattle.redo_store.specs.Tables.{state_of, tables_count, calls_of}
-use Rattle.redo_store.specs.Inside.Tables.{tables_naming}
 use Rattle.redo_history.specs.Histories.{line_text_of}
 use Rattle.redo_history.specs.Recorded.{AreLinesBelow}
 use Rattle.redo_live.specs.Inside.Ended.{end_text}
@@ -68,8 +67,8 @@ close-requires-clause-legal c =
     let closing : AreClosing (live_of c.self.inside) c.args.session (map line_of lines) =
     subst (λ (l : LiveState). AreClosing l c.args.session (map line_of lines))
     (sym c.self.view_is) c.in_ok-lines.ensures in
-    subst (λ (ls : List Line). LegalFrom (tables_naming c.self.inside.redo)
-    (state_of c.self.inside.redo) (map line_of ls)) (sym c.deref-5.ensures.value)
+    subst (λ (ls : List Line). LegalFrom by_number (state_of c.self.inside.redo) (map line_of ls))
+    (sym c.deref-5.ensures.value)
     (close_legal c.self.inside.names c.are_names.ensures c.self.inside.redo
     c.self.invariant.state c.args.session lines closing)
 
@@ -85,8 +84,8 @@ invariant_of-self c =
       state = kept_end c.self.inside.names c.are_names.ensures tables c.self.invariant.state
           c.args.session lines closing c.close.new.redo
           (c.close.ensures.left
-          ∙ ap (λ (ls : List Line). left_by (tables_naming tables) (state_of tables)
-          (map line_of ls)) c.deref-5.ensures.value)
+          ∙ ap (λ (ls : List Line). left_by by_number (state_of tables) (map line_of ls))
+          c.deref-5.ensures.value)
           (c.close.ensures.calls
           ∙ ap (λ (ls : List Line). calls_of tables + length ls) c.deref-5.ensures.value);
       numbers = c.self.invariant.numbers ∙ sym c.close.ensures.count;
@@ -112,7 +111,7 @@ returns-clause-ended c =
     (ends names c.are_names.ensures tables c.self.invariant.state c.args.session lines closing
     c.close.new.redo
     (c.close.ensures.left
-    ∙ ap (λ (ls : List Line). left_by (tables_naming tables) (state_of tables) (map line_of ls))
+    ∙ ap (λ (ls : List Line). left_by by_number (state_of tables) (map line_of ls))
     c.deref-5.ensures.value)
     (c.close.ensures.calls
     ∙ ap (λ (ls : List Line). calls_of tables + length ls) c.deref-5.ensures.value)

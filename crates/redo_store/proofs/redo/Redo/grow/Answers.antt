@@ -47,8 +47,5 @@ returns-clause-calls c = ap calls_of c.self.view_is
 pub returns-clause-count : goal.returns-clause-count
 returns-clause-count c = c.in_ok-grow.ensures.count
 
-pub returns-clause-order : goal.returns-clause-order
-returns-clause-order c = c.in_ok-grow.ensures.order
-
 pub invariant_of-self : goal.invariant_of-self
 invariant_of-self c = rw c.in_err-grow.ensures.err c.self.invariant

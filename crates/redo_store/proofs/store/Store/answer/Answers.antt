@@ -1,19 +1,20 @@
 use Rattle.std.proofs.Common.{◌≡◌, ℕ, List, subst, rules}
 use Rattle.std.specs.Prelude.{IfOk}
 use Rattle.std.proofs.lemmas.Result.{IfOk-weaker}
+use Rattle.redo_model.specs.Names.{by_number}
 use Rattle.redo_terms.specs.Meaning.{reply_of}
 use Rattle.redo_model.specs.Command as commands
 use Rattle.redo_model.specs.Step.{Tells}
-use Rattle.redo_store.specs.Stored.{Stored, naming_of, records_of}
+use Rattle.redo_store.specs.Stored.{Stored, records_of}
 use Rattle.redo_store.proofs.store.Store.answer.Goals as goal
 
 pub returns-in-IfChange-clause-tells : goal.returns-in-IfChange-clause-tells
 returns-in-IfChange-clause-tells c =
     let now : Stored = c.args.self.now in
     let same : c.as_slice.result.now ≡ c.in-IfChange.field-1.items = search rules in
-    let told : IfOk c.stale_reply.result (λ reply. (t : ℕ) → Tells (naming_of now) (records_of now)
+    let told : IfOk c.stale_reply.result (λ reply. (t : ℕ) → Tells by_number (records_of now)
     (commands.IfChange t c.in-IfChange.field-1.items) (reply_of reply)) =
-    subst (λ (ns : List ℕ). IfOk c.stale_reply.result (λ reply. (t : ℕ) → Tells (naming_of now)
+    subst (λ (ns : List ℕ). IfOk c.stale_reply.result (λ reply. (t : ℕ) → Tells by_number
     (records_of now) (commands.IfChange t ns) (reply_of reply))) same c.stale_reply.ensures.tells
     in
     rw c.in-IfChange.is

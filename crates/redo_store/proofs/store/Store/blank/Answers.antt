@@ -1,25 +1,33 @@
-use Rattle.std.proofs.Common.{◌≡◌, ◌∙◌, sym, subst}
-use Rattle.std.proofs.lemmas.Result.{IfOk-weaker}
-use Rattle.redo_order.specs.Orders.{IsByNumber}
-use Rattle.redo_order.specs.Inside.Orders.{IsOrderOf}
-use Rattle.redo_order.proofs.Counting.{listed_up_to, ordered_by_number, ranked_by_number}
-use Rattle.redo_store.specs.Stored.{Stored, order_of}
+use Rattle.std.proofs.Common.{◌≡◌, ◌∙◌, ap, length, sym, subst, arith}
+use Rattle.std.proofs.Math.ListN.{length-replicate}
+use Rattle.redo_model.specs.State.{idle}
+use Rattle.redo_marks.specs.Memo.{IsRight}
+use Rattle.redo_store.specs.Stored.{Stored}
+use Rattle.redo_store.proofs.Kept.{IsStored-new}
+use Rattle.redo_store.proofs.Refreshing.{empty_records}
 use Rattle.redo_store.proofs.store.Store.blank.Goals as goal
 
-pub with_order-requires-clause-order : goal.with_order-requires-clause-order
-with_order-requires-clause-order c =
-    subst (IsOrderOf c.args.numbers) (sym c.in_ok-sorted.ensures) (listed_up_to c.args.numbers)
+pub invariant_of-result : goal.invariant_of-result
+invariant_of-result c =
+    let number = c.args.numbers in
+    let cells = c.in_ok-records.records in
+    let rows = c.in_ok-rows.rows in
+    let stored : Stored = record { cells = cells; rows = rows; applied = 0 } in
+    let count : length cells ≡ number =
+    ap length c.in_ok-records.ensures ∙ length-replicate number idle in
+    let first =
+    empty_records number cells rows c.in_ok-records.ensures c.in_ok-rows.ensures.rows in
+    record {
+      stored = IsStored-new stored number c.in_ok-records.ensures c.in_ok-rows.ensures.count
+          (omega arith);
+      memo_for_each = c.in_ok-memo.ensures.count ∙ sym count;
+      memo_right = subst (IsRight c.in_ok-memo.memo) (sym first) c.in_ok-memo.ensures.right;
+    }
 
-pub with_order-requires-clause-ranks : goal.with_order-requires-clause-ranks
-with_order-requires-clause-ranks c =
-    ranked_by_number c.args.numbers c.in_ok-sorted.sorted.items c.in_ok-ranks.ranks.items
-    c.in_ok-sorted.ensures c.in_ok-ranks.ensures
+pub returns-clause-empty : goal.returns-clause-empty
+returns-clause-empty c =
+    empty_records c.args.numbers c.in_ok-records.records c.in_ok-rows.rows c.in_ok-records.ensures
+    c.in_ok-rows.ensures.rows
 
-pub returns-clause-order : goal.returns-clause-order
-returns-clause-order c =
-    let numbers = c.args.numbers in
-    IfOk-weaker c.with_order.result
-    (λ (store : Stored). store.sorted ≡ c.in_ok-sorted.sorted.items)
-    (λ store. IsByNumber numbers (order_of store))
-    (λ store e. ordered_by_number numbers store.sorted (e ∙ c.in_ok-sorted.ensures))
-    c.with_order.ensures.sorted
+pub returns-clause-count : goal.returns-clause-count
+returns-clause-count c = ap length c.in_ok-records.ensures ∙ length-replicate c.args.numbers idle

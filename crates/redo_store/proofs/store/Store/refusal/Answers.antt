@@ -1,16 +1,17 @@
 use Rattle.std.proofs.Common.{◌≡◌, Some, None, option_map, refl, arith}
+use Rattle.redo_model.specs.Names.{by_number}
 use Rattle.redo_terms.specs.Meaning.{command_of, refusal_of}
 use Rattle.redo_terms.specs.Inside.Meaning.{kind_of}
 use Rattle.redo_model.specs.State.{target_state}
 use Rattle.redo_records.specs.Refusals.{refusal_by_target}
-use Rattle.redo_store.specs.Stored.{Stored, naming_of, records_of}
+use Rattle.redo_store.specs.Stored.{Stored, records_of}
 use Rattle.redo_store.proofs.Refusals.{free_without_target, refusal_by_parts}
 use Rattle.redo_store.proofs.store.Store.refusal.Goals as goal
 
 pub returns-in_err-t : goal.returns-in_err-t
 returns-in_err-t c =
     let none : c.from_residual.result ≡ None = grind arith in
-    rw none (free_without_target (naming_of c.args.self.now) (records_of c.args.self.now) c.args.s
+    rw none (free_without_target by_number (records_of c.args.self.now) c.args.s
     c.args.holds (command_of c.args.command.now) c.in_err-t.ensures)
 
 pub returns-in-Some : goal.returns-in-Some
@@ -20,7 +21,7 @@ returns-in-Some c =
     (target_state (records_of now) c.in_ok-t.t) c.args.s c.args.holds (kind_of c.args.command.now) =
     rw (← c.self.view_is, ← c.kind.ensures) c.in-Some.ensures
     in
-    refusal_by_parts (naming_of now) (records_of now) c.args.s c.args.holds c.args.command.now
+    refusal_by_parts by_number (records_of now) c.args.s c.args.holds c.args.command.now
     c.in_ok-t.t (Some (refusal_of c.in-Some.refusal)) _ c.in_ok-t.ensures by_cell refl
 
 pub returns-in-None : goal.returns-in-None
@@ -30,6 +31,6 @@ returns-in-None c =
     (target_state (records_of now) c.in_ok-t.t) c.args.s c.args.holds (kind_of c.args.command.now) =
     rw (← c.self.view_is, ← c.kind.ensures) c.in-None.ensures
     in
-    refusal_by_parts (naming_of now) (records_of now) c.args.s c.args.holds c.args.command.now
+    refusal_by_parts by_number (records_of now) c.args.s c.args.holds c.args.command.now
     c.in_ok-t.t None (option_map refusal_of c.refusal_of_names.result) c.in_ok-t.ensures by_cell
     c.refusal_of_names.ensures

@@ -18,7 +18,6 @@ invariant_of-self c =
     record {
       stored = IsStored-set_rows (stored_of inside) made.new.self c.self.invariant.stored
           made.ensures.count;
-      ranked = c.self.invariant.ranked;
       memo_for_each = c.self.invariant.memo_for_each;
       memo_right = subst IsRightAt (sym made.ensures.rows) c.self.invariant.memo_right;
     }

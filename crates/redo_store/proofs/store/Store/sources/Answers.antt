@@ -1,23 +1,26 @@
 use Rattle.std.proofs.Common.{arith}
-use Rattle.redo_order.proofs.Listed.{number_below, first_more, first_all}
-use Rattle.redo_store.specs.Stored.{count_of}
+use Rattle.redo_model.specs.Names.{by_number}
+use Rattle.redo_model.specs.OutOfDate.{IsSource}
+use Rattle.redo_model.proofs.Listing.{listed_all, listed_more}
+use Rattle.redo_order.proofs.Listed.{listed_below}
+use Rattle.redo_store.specs.Stored.{count_of, records_of}
 use Rattle.redo_store.proofs.Unknown.{file_below}
 use Rattle.redo_store.proofs.store.Store.sources.Goals as goal
 
-pub is_source-is_due-requires : goal.is_source-is_due-requires
-is_source-is_due-requires c =
-    number_below c.loop-n.n-index 0 c.sorted-n-items.ensures.stored.all_in_order
-    c.sorted-n-items.ensures.sorted
-    (omega arith)
-
 pub loop-n-preserved : goal.loop-n-preserved
 loop-n-preserved c =
-    first_more (count_of c.args.self.now) c.loop-n.n-index 0
-    c.sorted-n-items.ensures.stored.all_in_order c.sorted-n-items.ensures.sorted
-    (omega arith) c.loop-n.invariant c.is_source-is_due.ensures c.in_ok-push_if.ensures
+    rw c.in_ok-push_if.ensures
+    (listed_more (IsSource (records_of c.args.self.now)) c.loop-n.n c.loop-n.names.items
+    c.is_source-is_due.result c.is_source-is_due.ensures c.loop-n.invariant)
 
-pub returns : goal.returns
-returns c =
-    first_all (count_of c.args.self.now) c.sorted-n-items.ensures.stored.all_in_order
-    c.sorted-n-items.ensures.sorted (omega arith)
-    (λ n p. file_below c.args.self.now n p.1) c.loop-n.invariant
+pub returns-clause-listed : goal.returns-clause-listed
+returns-clause-listed c =
+    listed_all (IsSource (records_of c.args.self.now)) c.loop-n.n c.loop-n.names.items
+    (λ n source. omega (arith, file_below c.args.self.now n source.1, c.count-n-end.ensures.count))
+    c.loop-n.invariant
+
+pub returns-clause-below : goal.returns-clause-below
+returns-clause-below c =
+    listed_below by_number (IsSource (records_of c.args.self.now)) (count_of c.args.self.now)
+    (λ n source. file_below c.args.self.now n source.1) c.loop-n.names.items
+    (returns-clause-listed c)

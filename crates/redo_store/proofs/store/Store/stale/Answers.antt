@@ -1,29 +1,22 @@
-use Rattle.std.proofs.Common.{◌<◌, ◌∙◌, ℕ, List, length, map, get_or, sym, ap, subst}
-use Rattle.std.specs.List.{All}
-use Rattle.std.proofs.lemmas.Result.{IfOk-weaker}
+use Rattle.std.specs.List.{Contains}
+use Rattle.redo_model.specs.Names.{by_number}
+use Rattle.redo_model.specs.OutOfDate.{IsStale}
 use Rattle.redo_model.proofs.Listing.{below_in}
-use Rattle.redo_order.proofs.Ranked.{all_placed, in_order_by_places}
-use Rattle.redo_store.specs.Stored.{count_of}
+use Rattle.redo_order.proofs.Listed.{listed_below}
+use Rattle.redo_store.specs.Stored.{count_of, records_of}
+use Rattle.redo_store.proofs.Stale.{listed_once}
 use Rattle.redo_store.proofs.store.Store.stale.Goals as goal
 
-pub names_at-requires : goal.names_at-requires
-names_at-requires c =
-    let places = c.in_order-places in
-    let sorted = c.args.self.now.sorted in
-    let below = all_placed places.result.items c.in_ok-ranks.ensures places.ensures.same in
-    subst (λ (ns : List ℕ). All (λ k. k < length ns) c.deref.result.now)
-    (sym c.sorted-all.ensures.sorted)
-    (subst (All (λ k. k < length sorted)) (sym c.deref.ensures.value) below)
+pub returns-clause-listed : goal.returns-clause-listed
+returns-clause-listed c =
+    listed_once (λ n. Contains c.args.names.now n × IsStale (records_of c.args.self.now) n)
+    c.in_ok-stale.stale.items c.in_order.result.items c.in_order.ensures.rising
+    c.in_order.ensures.same c.in_ok-stale.ensures
 
-pub returns : goal.returns
-returns c =
-    let places = c.in_order-places in
+pub returns-clause-below : goal.returns-clause-below
+returns-clause-below c =
     let count = count_of c.args.self.now in
-    IfOk-weaker c.names_at.result _ _ (λ v named.
-    in_order_by_places count places.result.items v.items c.sorted-all.ensures.stored.all_in_order
-    (λ n p. below_in count c.args.names.now n c.requires p.0)
-    c.in_ok-ranks.ensures places.ensures.rising places.ensures.same
-    (named
-    ∙ ap (λ (ns : List ℕ). map (λ k. get_or ns k 0) c.deref.result.now) c.sorted-all.ensures.sorted
-    ∙ ap (map (λ k. get_or c.args.self.now.sorted k 0)) c.deref.ensures.value))
-    c.names_at.ensures
+    listed_below by_number
+    (λ n. Contains c.args.names.now n × IsStale (records_of c.args.self.now) n) count
+    (λ n p. below_in count c.args.names.now n c.requires p.0) c.in_order.result.items
+    (returns-clause-listed c)
