@@ -54,9 +54,10 @@ fn check_rows(alloc: Global, live: &Live, line: &mut Vec<u8>, lines: &[u8]) -> R
 {
     let mut left = lines;
     let mut number = live.count() as usize + 2;
+    let mut words = Vec::new(alloc);
     for t in 0..live.count() {
         line.clear();
-        put_rows(alloc, line, live, t)?;
+        put_rows(&mut words, line, live, t)?;
         let Some(rest) = after(left, line) else {
             return Err(LoadFault::Line(number));
         };

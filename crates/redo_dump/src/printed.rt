@@ -58,8 +58,9 @@ fn put_targets(alloc: Global, out: &mut Vec<u8>, live: &Live) -> Result<(), Allo
     ensures forms { OnOk result
         (HaveRowForms live.now.names (state_in live.now) (length live.now.names)) }
 {
+    let mut words = Vec::new(alloc);
     for t in 0..live.count() {
-        put_rows(alloc, out, live, t)?;
+        put_rows(&mut words, out, live, t)?;
     }
     Ok(())
 }

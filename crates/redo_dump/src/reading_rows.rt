@@ -183,6 +183,15 @@ fn put_row(
     Ok(n + 1)
 }
 
+/// How many words these are, if there is a space between each and the next.
+fn words_in(words: &[u8]) -> usize {
+    words
+        .iter()
+        .filter(|byte| **byte == b' ')
+        .count()
+        .saturating_add(1)
+}
+
 /// Puts the rows of `t` that these words mean.
 #[tactic(auto, using(crate::proofs::SameParts::same_parts, crate::proofs::SameParts::same_after))]
 fn put_rows(loading: &mut Loading, number: usize, t: u32, words: &[u8]) -> Result<(), LoadFault>
@@ -198,6 +207,7 @@ fn put_rows(loading: &mut Loading, number: usize, t: u32, words: &[u8]) -> Resul
         × AreSameButOf t (rows_of loading.old.rows) (rows_of loading.new.rows))
         (λ fault. fault ≡ LoadFault.Memory) }
 {
+    loading.reserve(t, words_in(words))?;
     let mut left = words;
     let mut least = 0;
     'words: while !left.is_empty() {

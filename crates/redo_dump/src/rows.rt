@@ -1,5 +1,5 @@
 //! The rows of a target.
-ghost use Rattle.std.specs.Prelude.{◌≡◌, ◌<◌, ◌++◌, List, IsTrue, IfOk, IfSome, OnOk, length};
+ghost use Rattle.std.specs.Prelude.{◌≡◌, ◌<◌, ◌++◌, List, IsTrue, IfSome, OnOk, length};
 ghost use Rattle.std.specs.List.{flat_map};
 ghost use Rattle.redo_model.specs.Names.{Text, text_at};
 ghost use Rattle.redo_text.specs.Texts.{after_space};
@@ -14,7 +14,7 @@ use redo_history::put_number;
 use redo_live::Live;
 use redo_records::Slot;
 use redo_text::put_word;
-use std::alloc::{AllocError, Global};
+use std::alloc::AllocError;
 
 fn has_rows(slot: &Slot) -> bool
     ensures { result ≡ has_rows slot.now }
@@ -38,20 +38,21 @@ fn put_slot(out: &mut Vec<u8>, live: &Live, slot: &Slot) -> Result<(), AllocErro
     }
 }
 
-/// The words of the target's rows, by the ascending numbers of the names that they are on.
-fn row_words(alloc: Global, live: &Live, t: u32) -> Result<Vec<u8>, AllocError>
+/// Writes the words of the target's rows, by the ascending numbers of the names that they are on, in place of what
+/// `words` has.
+fn put_row_words(words: &mut Vec<u8>, live: &Live, t: u32) -> Result<(), AllocError>
     requires { t < length live.now.names }
-    ensures text { IfOk result (λ words. words.items ≡ flat_map after_space
+    ensures text { OnOk result (words.new.items ≡ flat_map after_space
         (flat_map (row_words_at live.now.names (state_in live.now) (text_at live.now.names t))
         (numbers_of live.now.names))) }
-    ensures forms { IfOk result
-        (λ words. HasRowForms live.now.names (state_in live.now) (text_at live.now.names t)) }
+    ensures forms { OnOk result
+        (HasRowForms live.now.names (state_in live.now) (text_at live.now.names t)) }
 {
-    let mut words = Vec::new(alloc);
+    words.clear();
     for slot in live.slots(t) {
-        put_slot(&mut words, live, slot)?;
+        put_slot(words, live, slot)?;
     }
-    Ok(words)
+    Ok(())
 }
 
 /// Writes the line of a target with these rows, if it has any.
@@ -69,9 +70,10 @@ fn put_line(out: &mut Vec<u8>, t: u32, always: bool, words: &[u8]) -> Result<(),
     Ok(())
 }
 
-/// Writes the line of the target with this number, if it has rows.
+/// Writes the line of the target with this number, if it has rows. What `words` has is lost: its memory serves one
+/// target after another.
 pub(crate) fn put_rows(
-    alloc: Global,
+    words: &mut Vec<u8>,
     out: &mut Vec<u8>,
     live: &Live,
     t: u32,
@@ -82,6 +84,6 @@ pub(crate) fn put_rows(
     ensures forms { OnOk result
         (HasRowForms live.now.names (state_in live.now) (text_at live.now.names t)) }
 {
-    let words = row_words(alloc, live, t)?;
-    put_line(out, t, live.always(t), &words)
+    put_row_words(words, live, t)?;
+    put_line(out, t, live.always(t), words)
 }

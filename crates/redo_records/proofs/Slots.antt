@@ -1,5 +1,5 @@
 -- The rows on a name, by the place of its slot.
-use Rattle.std.proofs.Common.{◌≡◌, ℕ, zero, suc, ◌<◌, true, false, cond, eqb, eq-eqb, ne_eqb, List, [], ◌∷◌, length, get_or, refl, sym, ap, ◌∙◌, inl, inr, arith, Result, Ok, Err, IfOk, IfErr}
+use Rattle.std.proofs.Common.{◌≡◌, ℕ, zero, suc, ◌+◌, ◌<◌, true, false, cond, eqb, eq-eqb, ne_eqb, List, [], ◌∷◌, length, get_or, refl, sym, ap, subst, ◌∙◌, inl, inr, arith, Result, Ok, Err, IfOk, IfErr}
 use Rattle.std.proofs.lemmas.Bool.{cases_lt, cases_eq, eqb-true, or_parts}
 use Rattle.std.proofs.lemmas.List.{get_or_default}
 use Rattle.std.proofs.lemmas.List.Folds.{list_any_none, list_any_at, Any-from_list_any}
@@ -101,3 +101,15 @@ searched slots ascending n (Err i) in_range parted =
         after = λ k. gap.2 k (blank 0);
       };
     }
+
+-- a name after that of the last slot would go behind all
+pub gap_behind : (slots : List Slot) (n last : ℕ) → Ascending slots → last + 1 ≡ length slots
+    → name_at slots last < n → IsGapFor slots n (length slots)
+gap_behind slots n last ascending is less = record {
+  within = omega arith;
+  before = λ k below. elim (cases_lt k last) [
+    | inl earlier ↦ omega (arith, less, ascending k last (blank 0) earlier (omega (arith, is)))
+    | inr from ↦ subst (λ i. name_at slots i < n) (omega (arith, is, below, from)) less
+  ];
+  after = λ k from below. absurd (omega (arith, from, below));
+}

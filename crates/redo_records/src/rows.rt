@@ -108,8 +108,8 @@ impl DepRows {
         Ok(())
     }
 
-    /// Reserves memory for exactly that many slots of `t`, if it has none.
-    fn reserve_first(&mut self, t: u32, count: usize) -> Result<(), AllocError>
+    /// Reserves memory for exactly that many slots of `t`, if it has none. This changes nothing.
+    pub fn reserve_first(&mut self, t: u32, count: usize) -> Result<(), AllocError>
         requires { t < rows_count self.old }
         ensures { self.new ≡ self.old }
     {

@@ -1,4 +1,4 @@
-ghost use Rattle.std.specs.Prelude.{◌≡◌, ◌↔◌, ℕ, ◌<◌, ◌≤◌, ◌==◌, ◌||◌, Some, true, false, is_some, IsTrue, option_map, MatchOption, IfOk, IfErr, OnOk, OnErr, if◌then◌else◌};
+ghost use Rattle.std.specs.Prelude.{◌≡◌, ◌↔◌, ℕ, ◌<◌, ◌≤◌, ◌==◌, ◌||◌, Some, true, false, is_some, IsTrue, length, option_map, MatchOption, IfOk, IfErr, OnOk, OnErr, if◌then◌else◌};
 ghost use Rattle.redo_model.specs.State as states;
 ghost use Rattle.redo_model.specs.State.{mark_in};
 ghost use Rattle.redo_records.specs.Meaning.{row_mark_of};
@@ -164,6 +164,17 @@ fn is_slot_at(slots: &[Slot], n: u32, place: usize) -> bool
     }
 }
 
+/// Whether all slots are of names before this one: so it is where names come in ascending order.
+fn are_before(slots: &[Slot], n: u32) -> bool
+    requires { Ascending slots.now }
+    ensures { IsTrue result → IsGapFor slots.now n (length slots.now) }
+{
+    match slots.len().checked_sub(1) {
+        Some(last) => slots[last].name() < n,
+        None => true,
+    }
+}
+
 /// The same as `search`. Callers pass `guess`: the place where the slot may be.
 fn search_from(slots: &[Slot], n: u32, guess: usize) -> Result<usize, usize>
     requires { Ascending slots.now }
@@ -172,6 +183,9 @@ fn search_from(slots: &[Slot], n: u32, guess: usize) -> Result<usize, usize>
 {
     if is_slot_at(slots, n, guess) {
         return Ok(guess);
+    }
+    if are_before(slots, n) {
+        return Err(slots.len());
     }
     search(slots, n)
 }

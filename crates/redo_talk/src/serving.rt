@@ -12,6 +12,7 @@ use redo_log::Devices;
 use redo_whole::Watched;
 use std::alloc::Global;
 use std::io::Read;
+use std::mem;
 
 /// Restores a database from its log, ends the sessions that the log left, puts a dump of what is known then in the
 /// place of the log if it is time for that, greets, and answers line after line until the input ends. A last line
@@ -40,7 +41,7 @@ pub fn serve<R: Read, D: Devices>(
     let mut opened = open(alloc, version, keeping, log)?;
     let buffers = Buffers::new(alloc)?;
     let growth = begin(&opened, keeping.sync, devices)?;
-    talk(
+    let talked = talk(
         alloc,
         &mut opened.live,
         keeping.sync,
@@ -48,5 +49,8 @@ pub fn serve<R: Read, D: Devices>(
         buffers,
         input,
         devices,
-    )
+    );
+    // The program ends: the system takes the memory back at once, where the database would be freed piece by piece.
+    mem::forget(opened);
+    talked
 }

@@ -43,8 +43,8 @@ returns-in_default-clause-only c = λ whole.
     ∙ ap (λ (text : Text). text ++ line t) c.clear.ensures.items)
     c.in_default.ensures)
 
-pub returns-else-is_empty-clause-only : goal.returns-else-is_empty-clause-only
-returns-else-is_empty-clause-only c = λ whole.
+pub returns-clause-only : goal.returns-clause-only
+returns-clause-only c = λ whole.
     let names = c.args.live.now.names in
     let line = rows_line names (state_in c.args.live.now) in
     let t = c.loop-t.t in

@@ -24,7 +24,8 @@ returns-in_err-least-clause-only c = λ names st is long cells none whole.
     let are =
     rows_until names st (rows_of c.words.loading.rows) c.args.t c.words.least found.0 before.2
     next.from next.none in
-    err_then c.from_residual.result c.in_err-least.field-0.0 _ _ c.from_residual.ensures.1
+    err_then c.from_residual-in_err-least.result c.in_err-least.field-0.0 _ _
+    c.from_residual-in_err-least.ensures.1
     (c.in_err-least.ensures.only names st found.0 is counted kept next.from next.below are next.row)
 
 pub words-preserved : goal.words-preserved

@@ -68,15 +68,15 @@ returns-clause-talk g c =
     let version = c.args.version.now in
     let input = g.R.Read.remaining (inner_of c.args.input.now) in
     let begun = g.D.Devices.history c.begin.new.devices in
-    let done = g.D.Devices.history c.talk.new.devices in
+    let done = g.D.Devices.history c.talk-talked.new.devices in
     let begins = c.in_ok-growth.ensures.begun c.args.keeping.salvage version bytes
     (c.in_ok-log.ensures.read ∙ ap (λ ops. Read bytes ∷ ops) c.requires) in
     let (later, after) =
-    follows_all (Read bytes ∷ []) begun done begins.0 c.talk.ensures.more in
-    ok_then c.talk.result _ _ c.talk.ensures.talk (λ talks.
+    follows_all (Read bytes ∷ []) begun done begins.0 c.talk-talked.ensures.more in
+    ok_then c.talk-talked.result _ _ c.talk-talked.ensures.talk (λ talks.
     answers_all c.args.keeping version bytes c.in_ok-opened.opened input
-    c.in_ok-opened.ensures.opened begun begins (known_of c.talk.new.live)
-    (g.R.Read.remaining (inner_of c.talk.new.input)) done later after talks)
+    c.in_ok-opened.ensures.opened begun begins (known_of c.talk-talked.new.live)
+    (g.R.Read.remaining (inner_of c.talk-talked.new.input)) done later after talks)
 
 pub returns-clause-cause : goal.returns-clause-cause
 returns-clause-cause g c =
@@ -84,12 +84,12 @@ returns-clause-cause g c =
     let version = c.args.version.now in
     let input = g.R.Read.remaining (inner_of c.args.input.now) in
     let begun = g.D.Devices.history c.begin.new.devices in
-    let done = g.D.Devices.history c.talk.new.devices in
+    let done = g.D.Devices.history c.talk-talked.new.devices in
     let begins = c.in_ok-growth.ensures.begun c.args.keeping.salvage version bytes
     (c.in_ok-log.ensures.read ∙ ap (λ ops. Read bytes ∷ ops) c.requires) in
     let (later, after) =
-    follows_all (Read bytes ∷ []) begun done begins.0 c.talk.ensures.more in
-    both_err c.talk.result _ _ _ c.talk.ensures.device c.talk.ensures.cause (λ fault device talks.
+    follows_all (Read bytes ∷ []) begun done begins.0 c.talk-talked.ensures.more in
+    both_err c.talk-talked.result _ _ _ c.talk-talked.ensures.device c.talk-talked.ensures.cause (λ fault device talks.
     talk_cause_serves c.args.keeping version bytes c.in_ok-opened.opened input
-    c.in_ok-opened.ensures.opened begun begins (known_of c.talk.new.live)
-    (g.R.Read.remaining (inner_of c.talk.new.input)) done later after fault device talks)
+    c.in_ok-opened.ensures.opened begun begins (known_of c.talk-talked.new.live)
+    (g.R.Read.remaining (inner_of c.talk-talked.new.input)) done later after fault device talks)

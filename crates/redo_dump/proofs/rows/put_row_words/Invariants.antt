@@ -5,7 +5,7 @@ use Rattle.redo_text.specs.Texts.{after_space}
 use Rattle.redo_live.specs.Inside.LiveState.{state_in}
 use Rattle.redo_dump.specs.Dumps.{HasMarkForm}
 use Rattle.redo_dump.specs.Inside.Slots.{slot_words}
-use Rattle.redo_dump.proofs.rows.row_words.Given as goal
+use Rattle.redo_dump.proofs.rows.put_row_words.Given as goal
 
 abbrev pub invariant-loop-slot : goal.invariant-loop-slot
 invariant-loop-slot l = record {

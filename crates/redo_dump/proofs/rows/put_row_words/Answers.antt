@@ -10,7 +10,7 @@ use Rattle.redo_live.specs.Inside.LiveState.{state_in}
 use Rattle.redo_dump.specs.Dumps.{HasMarkForm}
 use Rattle.redo_dump.specs.Inside.Slots.{slot_words}
 use Rattle.redo_dump.proofs.SlotWords.{is_on_name, slot_form, words_more, words_of_rows}
-use Rattle.redo_dump.proofs.rows.row_words.Goals as goal
+use Rattle.redo_dump.proofs.rows.put_row_words.Goals as goal
 
 pub put_slot-requires : goal.put_slot-requires
 put_slot-requires c =
