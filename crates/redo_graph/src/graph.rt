@@ -9,7 +9,6 @@ use crate::step::{Listed, Step};
 use crate::tables::Tables;
 use redo_journal::Plan;
 use redo_order::{ranks_of, sorted_numbers};
-use redo_terms::FileStamp;
 use std::alloc::{AllocError, Global};
 use std::marker::Model;
 
@@ -101,14 +100,6 @@ impl Graph {
             → Contains result.now p ↔ (Contains self.now.on.items p × (p.0 ≡ name)) }
     {
         self.on.block(name)
-    }
-
-    /// The stamps by their numbers.
-    pub fn stamps(&self) -> &[FileStamp]
-        ensures stamps { result.now ≡ self.now.tables.stamps }
-        ensures once { IsOnce self.now.tables.stamps }
-    {
-        self.tables.stamps()
     }
 
     /// The digests by their numbers.

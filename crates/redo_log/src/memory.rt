@@ -159,11 +159,6 @@ impl MemoryDevices {
     {
         &self.output
     }
-
-    /// How many operations there were.
-    pub fn operations(&self) -> usize {
-        self.counted.count
-    }
 }
 
 impl Devices for MemoryDevices {
