@@ -25,8 +25,8 @@ use Rattle.redo_model.specs.Inside.Why.{IsWhyBelow}
 use Rattle.redo_model.proofs.RecordsByName.{cell_at_name, value_at_name}
 use Rattle.redo_model.proofs.WhyByName.{why_below, tells_why_by_name, deps_by_name, unknown_by_name, unknown_without_number}
 use Rattle.redo_model.proofs.UsersByName.{users_by_name, unused_by_name, unused_without_number}
-use Rattle.redo_ood.specs.Meaning.{why_of}
-use Rattle.redo_ood.specs.declared.why.Why.{Why}
+use Rattle.redo_store.specs.Meaning.{why_of}
+use Rattle.redo_store.specs.declared.why.Why.{Why}
 use Rattle.redo_terms.specs.Meaning.{by_text}
 use Rattle.redo_live.specs.Answers.{Standing}
 use Rattle.redo_live.specs.Inside.Asked.{why_at}

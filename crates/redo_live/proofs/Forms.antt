@@ -18,8 +18,8 @@ use Rattle.redo_model.specs.Renaming.{AllBelow}
 use Rattle.redo_model.specs.State.{State}
 use Rattle.redo_model.specs.Why.{Reason, Building, Failed, Edited, Always, Appeared, Changed}
 use Rattle.redo_model.specs.Inside.Why.{IsReasonBelow, IsWhyBelow, named_reason}
-use Rattle.redo_ood.specs.Meaning.{why_of}
-use Rattle.redo_ood.specs.declared.why.Why.{Why}
+use Rattle.redo_store.specs.Meaning.{why_of}
+use Rattle.redo_store.specs.declared.why.Why.{Why}
 use Rattle.redo_terms.specs.Meaning.{by_text}
 use Rattle.redo_text.specs.declared.inquiries.Inquiry.{Inquiry}
 use Rattle.redo_live.specs.Answers.{Answer, IsAnswer, Rows, Uses, answer_line, inquiry_of}

@@ -9,6 +9,9 @@ pub mod Refusals
 pub mod Obeyed
 pub mod Holding
 pub mod Places
+pub mod SearchTree
+pub mod Searching
+pub mod Shortest
 pub mod Slots
 pub mod Stale
 pub mod Unknown

@@ -19,6 +19,7 @@ use Rattle.redo_marks.specs.Memo.{IsRight, WasRight, is_out, memo_count}
 use Rattle.redo_records.specs.Cells.{cell_at, with_cell_at}
 use Rattle.redo_records.specs.Rows.{TargetRows, rows_of, with_always, without_rows, rows_count, with_rows}
 use Rattle.redo_store.specs.Inside.Changes.{AreRowsAfter}
+use Rattle.redo_store.specs.declared.hints.Hints.{Hints}
 use Rattle.redo_store.specs.Inside.KeptStore.{KeepsStored, stored_of}
 use Rattle.redo_store.specs.Inside.Stored.{IsStored}
 use Rattle.redo_store.specs.declared.store.Store.TheInside.{Inside}
@@ -195,9 +196,9 @@ module _ (memo : List Bool) (cells : List Cell) (targets : List TargetRows) (n :
 -- what all changes of the store have in common: its cells and rows are those of a store, and its
 -- memo was made right for them
 pub refreshed : {inside : Inside} (cells : List Cell) (targets : List TargetRows) {memo : List Bool}
-    → KeepsStored inside → IsStored (record (stored_of inside) { cells = cells; rows = targets })
+    {hints : Hints} → KeepsStored inside → IsStored (record (stored_of inside) { cells = cells; rows = targets })
     → memo_count memo ≡ length cells → IsRight memo (with_rows cells targets)
-    → KeepsStored (record inside { records = cells; rows = targets; memo = memo })
+    → KeepsStored (record inside { records = cells; rows = targets; memo = memo; hints = hints })
 refreshed cells targets kept stored for_each right = record {
   stored = stored;
   memo_for_each = for_each;
@@ -213,10 +214,10 @@ module _ {inside : Inside} (kept : KeepsStored inside) (n : ℕ) where
       (sym written) (was_right_by_cell inside.memo inside.records inside.rows n kept.memo_right c)
 
   -- and the store's invariant is kept, if the cell has no more builds than commands were applied
-  pub cell_refreshed : (c : Cell) {cells : List Cell} {memo : List Bool}
+  pub cell_refreshed : (c : Cell) {cells : List Cell} {memo : List Bool} {hints : Hints}
       → cells ≡ with_cell_at inside.records n c → c.builds ≤ inside.applied
       → memo_count memo ≡ length cells → IsRight memo (with_rows cells inside.rows)
-      → KeepsStored (record inside { records = cells; memo = memo })
+      → KeepsStored (record inside { records = cells; memo = memo; hints = hints })
   cell_refreshed c {cells} written few =
       refreshed cells inside.rows kept
       (subst (λ (cs : List Cell). IsStored (record (stored_of inside) { cells = cs })) (sym written)

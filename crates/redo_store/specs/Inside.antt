@@ -4,3 +4,4 @@ pub mod Tables
 pub mod Kept
 pub mod KeptStore
 pub mod Parts
+pub mod Search

@@ -7,8 +7,9 @@ ghost use Rattle.redo_model.specs.Step.{Replies, Tells, verdict_of};
 ghost use Rattle.redo_model.specs.Renaming.{IsBelow, IsReplyBelow};
 ghost use Rattle.redo_terms.specs.Meaning.{command_of, reply_of, refusal_of};
 
+use crate::hints::Hints;
 use crate::table::{answer, answers, effect, effects};
-use redo_ood::Ood;
+use redo_marks::Memo;
 use redo_records::{DepRows, Records, digest_of};
 use redo_terms::{Command, Digest, FileStamp, Refusal, Reply, cases, unboxed};
 use std::alloc::{AllocError, Global};
@@ -30,7 +31,9 @@ pub struct Store {
     records: Records,
     rows: DepRows,
     // what is out of date by the records and the rows
-    memo: Ood,
+    memo: Memo,
+    // where a reason to be out of date is looked for first
+    hints: Hints,
     applied: u32,
 }
 

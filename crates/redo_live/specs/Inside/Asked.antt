@@ -7,9 +7,8 @@ use Rattle.redo_model.specs.Inside.Deps.{named_deps}
 use Rattle.redo_model.specs.Users as users
 use Rattle.redo_model.specs.Inside.Users.{named_users}
 use Rattle.redo_model.specs.Inside.Why.{named_why}
-use Rattle.redo_ood.specs.Meaning.{why_of}
-use Rattle.redo_ood.specs.declared.why.Why.{Why}
-use Rattle.redo_store.specs.Meaning.{deps_of, users_of}
+use Rattle.redo_store.specs.Meaning.{deps_of, users_of, why_of}
+use Rattle.redo_store.specs.declared.why.Why.{Why}
 use Rattle.redo_store.specs.declared.deps.Deps.{Deps}
 use Rattle.redo_store.specs.declared.users.Users.{Users}
 

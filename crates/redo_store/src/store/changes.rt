@@ -9,8 +9,10 @@ ghost use Rattle.redo_store.specs.Inside.Changes.{HasEffect, HasEffectOfAny, Are
 ghost use Rattle.redo_store.specs.Stored.{records_of, count_of, has_room_for};
 ghost use Rattle.redo_store.specs.Inside.Stored.{HasBuildsLeft, KeepsNames};
 
+use crate::database::correct;
+use crate::hints::Hints;
 use crate::store::Store;
-use redo_ood::Ood;
+use redo_marks::Memo;
 use redo_records::{DepRows, Records, digest_of};
 use redo_terms::FileStamp;
 
@@ -43,7 +45,7 @@ fn create_each(rows: &mut DepRows, t: u32, names: &[u32])
 }
 
 /// Corrects the memo after a change of the name's record or rows.
-fn refresh(memo: &mut Ood, records: &Records, rows: &DepRows, n: u32)
+fn refresh(memo: &mut Memo, hints: &mut Hints, records: &Records, rows: &DepRows, n: u32)
     requires name { n < length records.now }
     requires rows { rows_count rows.now ≡ length records.now }
     requires memo { memo_count memo.old ≡ length records.now }
@@ -51,12 +53,19 @@ fn refresh(memo: &mut Ood, records: &Records, rows: &DepRows, n: u32)
     ensures right { IsRight memo.new (with_rows records.now rows.now) }
     ensures count { memo_count memo.new ≡ length records.now }
 {
-    memo.refresh(records, rows, &[n]);
+    correct(memo, hints, records, rows, &[n]);
 }
 
 /// Corrects the memo after a start of the name. Callers pass `was_out`: whether it was out of date
 /// before. If it was, what depends on it still is, and the memo is right.
-fn refresh_started(memo: &mut Ood, records: &Records, rows: &DepRows, n: u32, was_out: bool)
+fn refresh_started(
+    memo: &mut Memo,
+    hints: &mut Hints,
+    records: &Records,
+    rows: &DepRows,
+    n: u32,
+    was_out: bool,
+)
     requires name { n < length records.now }
     requires rows { rows_count rows.now ≡ length records.now }
     requires memo { memo_count memo.old ≡ length records.now }
@@ -66,7 +75,7 @@ fn refresh_started(memo: &mut Ood, records: &Records, rows: &DepRows, n: u32, wa
     ensures count { memo_count memo.new ≡ length records.now }
 {
     if !was_out {
-        refresh(memo, records, rows, n);
+        refresh(memo, hints, records, rows, n);
     }
 }
 
@@ -81,7 +90,8 @@ impl Store {
             return;
         }
         self.records.set_file(n, file);
-        refresh(&mut self.memo, &self.records, &self.rows, n);
+        let hints = &mut self.hints;
+        refresh(&mut self.memo, hints, &self.records, &self.rows, n);
     }
 
     pub(crate) fn start(&mut self, s: u16, t: u32)
@@ -93,7 +103,8 @@ impl Store {
         let was_out = self.memo.is(t);
         self.records.start(s, t);
         self.rows.clear(t);
-        refresh_started(&mut self.memo, &self.records, &self.rows, t, was_out);
+        let hints = &mut self.hints;
+        refresh_started(&mut self.memo, hints, &self.records, &self.rows, t, was_out);
     }
 
     pub(crate) fn stamp(&mut self, t: u32, content: &[u8])
@@ -103,7 +114,8 @@ impl Store {
         ensures kept { KeepsNames self.old self.new }
     {
         self.records.stamp(t, digest_of(content));
-        refresh(&mut self.memo, &self.records, &self.rows, t);
+        let hints = &mut self.hints;
+        refresh(&mut self.memo, hints, &self.records, &self.rows, t);
     }
 
     pub(crate) fn done(&mut self, t: u32, stamp: Option<FileStamp>)
@@ -114,7 +126,8 @@ impl Store {
         ensures kept { KeepsNames self.old self.new }
     {
         self.records.done(t, stamp);
-        refresh(&mut self.memo, &self.records, &self.rows, t);
+        let hints = &mut self.hints;
+        refresh(&mut self.memo, hints, &self.records, &self.rows, t);
     }
 
     pub(crate) fn failed(&mut self, t: u32)
@@ -124,7 +137,8 @@ impl Store {
         ensures kept { KeepsNames self.old self.new }
     {
         self.records.failed(t);
-        refresh(&mut self.memo, &self.records, &self.rows, t);
+        let hints = &mut self.hints;
+        refresh(&mut self.memo, hints, &self.records, &self.rows, t);
     }
 
     /// A change row of the target on each of the names, with the mark that it has now. While the

@@ -5,8 +5,10 @@ ghost use Rattle.redo_records.specs.Cells.{cell_at};
 ghost use Rattle.redo_records.specs.Rows.{rows_count, with_rows};
 ghost use Rattle.redo_store.specs.Stored.{records_of, count_of, applied_of};
 
+use crate::database::correct;
+use crate::hints::Hints;
 use crate::store::Store;
-use redo_ood::Ood;
+use redo_marks::Memo;
 use redo_records::{DepRows, Records};
 use std::alloc::{AllocError, Global};
 
@@ -34,12 +36,14 @@ impl Store {
     {
         let count = records.count() as u32;
         let all = all_numbers(alloc, count)?;
-        let mut memo = Ood::new(alloc, count)?;
-        memo.refresh(&records, &rows, &all);
+        let mut memo = Memo::new(alloc, count)?;
+        let mut hints = Hints::new(alloc, count)?;
+        correct(&mut memo, &mut hints, &records, &rows, &all);
         Ok(Store {
             records,
             rows,
             memo,
+            hints,
             applied,
         })
     }

@@ -10,18 +10,17 @@ ghost use Rattle.redo_model.specs.Names.{IsListed, by_number};
 ghost use Rattle.redo_model.specs.OutOfDate.{HasChangeRow, HasCreatedRow, OutOfDate};
 ghost use Rattle.redo_model.specs.Renaming.{AllBelow};
 ghost use Rattle.redo_model.specs.State.{target_state};
-ghost use Rattle.redo_ood.specs.Meaning.{why_of};
+ghost use Rattle.redo_store.specs.Meaning.{deps_of, users_of, why_of};
 ghost use Rattle.redo_records.specs.Meaning.{target_state_of};
 ghost use Rattle.redo_records.specs.Rows.{slot_at};
 ghost use Rattle.redo_records.specs.Target.{Ascending};
-ghost use Rattle.redo_store.specs.Meaning.{deps_of, users_of};
 ghost use Rattle.redo_store.specs.Stored.{count_of, records_of};
 
 use crate::deps::Deps;
 use crate::store::Store;
 use crate::store::lists::push_if;
 use crate::users::{Users, numbers_at};
-use redo_ood::Why;
+use crate::why::{Why, search};
 use redo_records::{Cell, Slot, State};
 use redo_terms::FileStamp;
 use std::alloc::{AllocError, Global};
@@ -38,7 +37,20 @@ impl Store {
             (λ found. IfSome found (λ why. IsWhyBelow (count_of self.old) (why_of why))) }
         ensures up_to_date { (OutOfDate (records_of self.old) t → ⊥) → IsOk result }
     {
-        self.memo.why(alloc, &self.records, &self.rows, t)
+        if !self.is_out(t) {
+            return Ok(None);
+        }
+        let memo = &mut self.memo;
+        let found = search(
+            alloc,
+            &self.records,
+            &self.rows,
+            &memo.out,
+            t,
+            &mut memo.region,
+        );
+        memo.region.unmark_queue();
+        found
     }
 
     /// On which names the target has rows.

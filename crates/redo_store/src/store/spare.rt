@@ -6,8 +6,9 @@ ghost use Rattle.redo_records.specs.Cells.{cell_at};
 ghost use Rattle.redo_records.specs.Rows.{rows_count, rows_of};
 ghost use Rattle.redo_store.specs.Stored.{records_of, count_of, applied_of};
 
+use crate::hints::Hints;
 use crate::store::Store;
-use redo_ood::Ood;
+use redo_marks::Memo;
 use redo_records::{DepRows, Records};
 use std::alloc::{AllocError, Global};
 
@@ -42,11 +43,13 @@ impl Store {
     {
         let records = Records::new(alloc, numbers)?;
         let rows = DepRows::new(alloc, numbers)?;
-        let memo = Ood::new(alloc, numbers)?;
+        let memo = Memo::new(alloc, numbers)?;
+        let hints = Hints::new(alloc, numbers)?;
         Ok(Store {
             records,
             rows,
             memo,
+            hints,
             applied: 0,
         })
     }
@@ -60,8 +63,10 @@ impl Store {
         ensures err { OnErr result (self.new ≡ self.old) }
     {
         let memo = self.memo.grown(alloc, numbers)?;
+        let hints = Hints::new(alloc, numbers)?;
         grow_both(&mut self.records, &mut self.rows, numbers)?;
         self.memo = memo;
+        self.hints = hints;
         Ok(())
     }
 }

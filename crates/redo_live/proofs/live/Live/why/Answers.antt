@@ -2,7 +2,7 @@ use Rattle.std.proofs.Common.{IfOk, length, option_map, refl, subst}
 use Rattle.std.proofs.lemmas.Result.{IfOk-weaker}
 use Rattle.redo_model.specs.Why.{TellsWhy}
 use Rattle.redo_model.proofs.WhyByName.{unknown_up_to_date}
-use Rattle.redo_ood.specs.Meaning.{why_of}
+use Rattle.redo_store.specs.Meaning.{why_of}
 use Rattle.redo_store.specs.Tables.{state_of, tables_records}
 use Rattle.redo_live.specs.Inside.LiveState.{LiveState, state_in}
 use Rattle.redo_live.specs.Inside.Within.{IsStateWithin}

@@ -5,16 +5,16 @@ use Rattle.redo_model.proofs.Listing.{each_below}
 use Rattle.redo_store.proofs.Loaded.{differ_at_all}
 use Rattle.redo_store.proofs.store.Store.loaded.Goals as goal
 
-pub refresh-requires-clause-seeds : goal.refresh-requires-clause-seeds
-refresh-requires-clause-seeds c =
+pub correct-requires-clause-seeds : goal.correct-requires-clause-seeds
+correct-requires-clause-seeds c =
     each_below _ c.deref.result.now (λ n there.
     let below : n < c.count-count.result =
     (c.in_ok-all.ensures n).0
     (subst (λ (ns : List ℕ). Contains ns n) c.deref.ensures.value there) in
     omega (arith, c.in_ok-memo.ensures.count))
 
-pub refresh-requires-clause-right : goal.refresh-requires-clause-right
-refresh-requires-clause-right c = (
+pub correct-requires-clause-right : goal.correct-requires-clause-right
+correct-requires-clause-right c = (
   empty.records,
   differ_at_all c.args.records c.args.rows c.deref.result.now
       (λ n below. subst (λ (ns : List ℕ). Contains ns n) (sym c.deref.ensures.value)
@@ -29,6 +29,6 @@ invariant_of-result c = record {
     few_builds = c.requires.builds;
     few_names = c.requires.few;
   };
-  memo_for_each = c.refresh.ensures.count ∙ c.in_ok-memo.ensures.count ∙ c.count-count.ensures;
-  memo_right = c.refresh.ensures.right;
+  memo_for_each = c.correct.ensures.count ∙ c.in_ok-memo.ensures.count ∙ c.count-count.ensures;
+  memo_right = c.correct.ensures.right;
 }

@@ -1,4 +1,0 @@
-pub mod Places
-pub mod SearchTree
-pub mod Searching
-pub mod Shortest
