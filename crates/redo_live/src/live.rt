@@ -8,8 +8,7 @@ ghost use Rattle.redo_terms.specs.Meaning.{command_of, reply_of};
 ghost use Rattle.redo_terms.specs.Inside.Meaning.{command_at};
 ghost use Rattle.redo_text.specs.Grammar.{IsCommandLine, AddsNames};
 ghost use Rattle.redo_text.specs.Questions.{line_fault};
-ghost use Rattle.redo_store.specs.Stored.{has_room_for};
-ghost use Rattle.redo_store.specs.Tables.{state_of, tables_count};
+ghost use Rattle.redo_store.specs.Tables.{has_room_for, state_of, tables_count};
 
 use crate::fault::{Unanswered, Withheld};
 use crate::told::{answered, line_text, tell_within, text_if};
@@ -308,7 +307,7 @@ impl Live {
         ensures known { IsSameDatabase self.old self.new }
         ensures count { OnOk result (length self.new.names ≤ tables_count self.new.tables) }
         ensures room { OnOk result
-            (has_room_for self.new.tables.store (command_of command.now) ≡ true) }
+            (has_room_for self.new.tables (command_of command.now) ≡ true) }
         ensures answers { IfOk result (λ reply. Answers by_number (state_of self.new.tables)
             session (command_of command.now) (reply_of reply)) }
     {
@@ -324,7 +323,7 @@ impl Live {
         ensures known { IsSameDatabase self.old self.new }
         ensures count { OnOk result (length self.new.names ≤ tables_count self.new.tables) }
         ensures room { OnOk result
-            (has_room_for self.new.tables.store (command_of command.now) ≡ true) }
+            (has_room_for self.new.tables (command_of command.now) ≡ true) }
     {
         self.grow()?;
         self.redo.reserve(command)

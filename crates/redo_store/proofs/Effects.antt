@@ -1,4 +1,4 @@
--- The rows of a store that are written one by one, and the command's effect on the records that they make up.
+-- Rows that are written one by one, and the command's effect on the records that they make up.
 use Rattle.std.proofs.Common.{◌≡◌, ℕ, ◌+◌, ◌<◌, ◌≤◌, ◌==◌, cond, List, None, length, get_or, take, subst}
 use Rattle.std.proofs.Math.Path.{fun_ext}
 use Rattle.std.proofs.lemmas.List.{take_all}
@@ -10,7 +10,7 @@ use Rattle.redo_records.specs.Cells.{cell_at, with_cell_at}
 use Rattle.redo_records.specs.Rows.{TargetRows, rows_of, with_change, with_created, with_always, without_rows, with_rows}
 use Rattle.redo_records.proofs.Effects.{set_is_put, change_more, created_more}
 use Rattle.redo_store.specs.Inside.Changes.{AreRowsAfter}
-use Rattle.redo_store.specs.Stored.{Stored, records_of}
+use Rattle.redo_store.specs.Tables.{Tables, tables_records}
 
 -- the rows over these cells, written name by name
 module _ {cells : List Cell} {from before now : List TargetRows} {t : ℕ} (ns : List ℕ) (i : ℕ)
@@ -48,15 +48,15 @@ module _ {cells : List Cell} {from now : List TargetRows} {t : ℕ} (ns : List �
       subst (λ (names : List ℕ). AreRowsAfter cells from now (commands.IfCreate t names))
       (take_all i ns all)
 
--- what a start and an always write to the store
-module _ (t : Stored) (n : ℕ) (to : List TargetRows) where
+-- what a start and an always write
+module _ (t : Tables) (n : ℕ) (to : List TargetRows) where
   pub started : (s : ℕ) → n < length t.cells → rows_of to ≡ without_rows (rows_of t.rows) n
-      → records_of (record t {
+      → tables_records (record t {
         cells = with_cell_at t.cells n
             (record (cell_at t.cells n) { state = Building s; digest = None });
         rows = to;
       })
-      ≡ effect_of by_number (records_of t) s (commands.Start n)
+      ≡ effect_of by_number (tables_records t) s (commands.Start n)
   started s below cleared =
       let cell : Cell = record (cell_at t.cells n) { state = Building s; digest = None } in
       let cells : (λ (k : ℕ). cell_at (with_cell_at t.cells n cell) k)
@@ -65,6 +65,6 @@ module _ (t : Stored) (n : ℕ) (to : List TargetRows) where
       λ i. record { cell = cells i; rows = cleared i }
 
   pub put_for_always : (s : ℕ) → rows_of to ≡ with_always (rows_of t.rows) n
-      → records_of (record t { rows = to })
-      ≡ effect_of by_number (records_of t) s (commands.Always n)
+      → tables_records (record t { rows = to })
+      ≡ effect_of by_number (tables_records t) s (commands.Always n)
   put_for_always s written = λ i. record { cell = cell_at t.cells; rows = written i }

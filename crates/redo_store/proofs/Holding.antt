@@ -7,7 +7,7 @@ use Rattle.std.specs.Option.{option_to_list}
 use Rattle.std.specs.declared.cmp.Ordering.TheVariants.{Less}
 use Rattle.std.proofs.lemmas.Bool.{cases_lt, eq-eqb, eqb-true, false≢true}
 use Rattle.std.specs.Prelude.{nat_eq}
-use Rattle.std.proofs.Math.ListN.{replicate, length-replicate}
+use Rattle.std.proofs.Math.ListN.{replicate}
 use Rattle.std.proofs.lemmas.List.{get_or_past, take_more}
 use Rattle.std.proofs.lemmas.List.Elements.{filter-append, filter_map-append}
 use Rattle.std.proofs.lemmas.List.Kept.{Contains-dedup_nat, Contains-from_dedup}
@@ -57,13 +57,6 @@ no_holders count holders held none empty n =
       λ is. absurd (false≢true (sym out ∙ is)),
       λ some. absurd (false≢true (subst IsSome free some)),
     )
-
-pub none_for_each : (count : ℕ) (holders : List (Option ℕ)) (held : List Bool)
-    → holders ≡ replicate count None → held ≡ replicate count false
-    → length held ≡ length holders
-none_for_each count holders held none empty =
-    ap length empty ∙ length-replicate count false
-    ∙ sym (ap length none ∙ length-replicate count None)
 
 pub same_holders : (old new : List (Option ℕ)) (was is : List Bool)
     → ((n : ℕ) → get_or new n None ≡ get_or old n None)

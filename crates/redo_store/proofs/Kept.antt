@@ -1,18 +1,15 @@
 -- Writes that keep the invariant of the tables.
-use Rattle.std.proofs.Common.{◌≡◌, ℕ, zero, suc, ◌<◌, ◌≤◌, ◌+◌, ◌^◌, List, [], ◌∷◌, Option, Some, None, length, get_or, sym, ap, ◌∙◌, subst, arith}
-use Rattle.std.proofs.Math.ListN.{set, length-set, replicate, length-replicate}
+use Rattle.std.proofs.Common.{◌≡◌, ℕ, zero, suc, ◌<◌, ◌≤◌, ◌+◌, ◌^◌, List, [], ◌∷◌, Option, Some, None, length, get_or, sym, ap, ◌∙◌, subst}
+use Rattle.std.proofs.Math.ListN.{set, length-set}
 use Rattle.std.proofs.Math.Path.{fun_ext}
 use Rattle.std.proofs.lemmas.List.{get_or_default}
 use Rattle.redo_model.specs.Names.{put, by_number}
 use Rattle.redo_model.specs.State.{Cell, idle}
 use Rattle.redo_model.specs.Step.{after, locks_granted}
 use Rattle.redo_model.specs.Command as commands
-use Rattle.redo_model.proofs.MorePlaces.{same_everywhere}
-use Rattle.redo_records.specs.Cells.{cell_at}
 use Rattle.redo_records.specs.Rows.{TargetRows, rows_count}
 use Rattle.redo_records.proofs.Effects.{set_is_put}
-use Rattle.redo_store.specs.Stored.{Stored}
-use Rattle.redo_store.specs.Inside.Stored.{IsStored}
+use Rattle.redo_store.specs.Inside.Tables.{AreTables}
 use Rattle.redo_store.specs.Tables.{Tables, tables_records, locks_of, state_of}
 
 -- what is true at every place still is after a write that keeps it
@@ -24,43 +21,30 @@ each_set P (y ∷ ys) zero x d all here (suc k) = all (suc k)
 each_set P (y ∷ ys) (suc i) x d all here zero = all zero
 each_set P (y ∷ ys) (suc i) x d all here (suc k) = each_set P ys i x d (λ j. all (suc j)) here k
 
--- a cell with no more builds than commands may be written
-pub IsStored-set_cell : (t : Stored) (n : ℕ) (c : Cell) → IsStored t → c.builds ≤ t.applied
-    → IsStored (record t { cells = set t.cells n c })
-IsStored-set_cell t n c h few = record {
-  rows_for_each = h.rows_for_each ∙ sym (length-set t.cells n c);
-  few_builds = each_set (λ (y : Cell). y.builds ≤ t.applied) t.cells n c idle h.few_builds few;
-  few_names = subst (λ (m : ℕ). m < 2 ^ 32) (sym (length-set t.cells n c)) h.few_names;
-}
+-- a cell with no more builds than calls may be written
+pub AreTables-set_cell : (t : Tables) (n : ℕ) (c : Cell) → AreTables t → c.builds ≤ t.calls
+    → AreTables (record t { cells = set t.cells n c })
+AreTables-set_cell t n c h few =
+    let same : length t.cells ≡ length (set t.cells n c) = sym (length-set t.cells n c) in record {
+      rows_for_each = h.rows_for_each ∙ same;
+      holder_for_each = h.holder_for_each ∙ same;
+      grants_for_each = h.grants_for_each ∙ same;
+      few_names = subst (λ (m : ℕ). m < 2 ^ 32) same h.few_names;
+      few_builds = each_set (λ (y : Cell). y.builds ≤ t.calls) t.cells n c idle h.few_builds few;
+      few_grants = h.few_grants;
+    }
 
 -- the rows of as many targets may be written
-pub IsStored-set_rows : (t : Stored) (to : List TargetRows) → IsStored t
-    → rows_count to ≡ rows_count t.rows → IsStored (record t { rows = to })
-IsStored-set_rows t to h same = record {
+pub AreTables-set_rows : (t : Tables) (to : List TargetRows) → AreTables t
+    → rows_count to ≡ rows_count t.rows → AreTables (record t { rows = to })
+AreTables-set_rows t to h same = record {
   rows_for_each = same ∙ h.rows_for_each;
-  few_builds = h.few_builds;
+  holder_for_each = h.holder_for_each;
+  grants_for_each = h.grants_for_each;
   few_names = h.few_names;
+  few_builds = h.few_builds;
+  few_grants = h.few_grants;
 }
-
--- no cell is built at first
-none_built : (count : ℕ) (cells : List Cell) → cells ≡ replicate count idle
-    → (n : ℕ) → (cell_at cells n).builds ≤ 0
-none_built count cells all_idle n =
-    let none : (cell_at cells n).builds ≡ 0 =
-    ap (λ (xs : List Cell). (cell_at xs n).builds) all_idle
-    ∙ ap (λ (x : Cell). x.builds) (same_everywhere count n idle) in
-    omega arith
-
--- a store in which nothing is known
-pub IsStored-new : (t : Stored) (count : ℕ) → t.cells ≡ replicate count idle
-    → rows_count t.rows ≡ count → count < 2 ^ 32 → IsStored t
-IsStored-new t count cells each few =
-    let counted : length t.cells ≡ count = ap length cells ∙ length-replicate count idle in
-    record {
-      rows_for_each = each ∙ sym counted;
-      few_builds = λ n. omega (arith, none_built count t.cells cells n);
-      few_names = subst (λ (m : ℕ). m < 2 ^ 32) (sym counted) few;
-    }
 
 -- a free lock is granted: g is the grants that were read
 pub granted : (t : Tables) (s n g : ℕ) → n < length t.holders → n < length t.grants

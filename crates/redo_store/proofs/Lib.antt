@@ -1,4 +1,3 @@
-pub mod Blank
 pub mod Kept
 pub mod Loaded
 pub mod Made

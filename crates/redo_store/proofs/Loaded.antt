@@ -1,4 +1,5 @@
--- A store with records and rows: its memo was right for the empty records, which differ at all numbers.
+-- A database made from its parts: its memo was right for the empty records, which differ at all
+-- numbers.
 use Rattle.std.proofs.Common.{◌≡◌, ◌↔◌, ℕ, ◌<◌, ◌≤◌, List, length, sym, ap, inl, inr, arith}
 use Rattle.std.specs.List.{Contains, range_with_len}
 use Rattle.std.proofs.lemmas.Bool.{cases_lt}

@@ -4,7 +4,7 @@ use Rattle.std.proofs.Math.ListN.{set, length-set, replicate, length-replicate}
 use Rattle.redo_model.specs.State.{Cell, Building, empty, idle, no_rows}
 use Rattle.redo_model.proofs.MorePlaces.{same_everywhere}
 use Rattle.redo_records.specs.Cells.{cell_at}
-use Rattle.redo_records.specs.Rows.{TargetRows, rows_count, rows_of}
+use Rattle.redo_records.specs.Rows.{rows_count, rows_of}
 use Rattle.redo_store.specs.Inside.Parts.{Parts, AreParts, parts_count, state_made}
 use Rattle.redo_store.proofs.Holding.{no_holders}
 use Rattle.redo_store.proofs.Kept.{each_set}
@@ -100,18 +100,3 @@ parts_set parts held n c holder grants most are below builder more builds grante
           (λ (d : Cell) (o : Option ℕ). (s : ℕ) → d.state ≡ Building s → o ≡ Some s) parts.cells
           parts.holders n c idle holder None below in_holders are.builders builder;
     }
-
--- the rows are replaced by others of as many names
-pub parts_rows : (parts : Parts) (held : List Bool) (rows : List TargetRows) → AreParts parts held
-    → rows_count rows ≡ rows_count parts.rows → AreParts (record parts { rows = rows }) held
-parts_rows parts held rows are counted = record {
-  rows_for_each = counted ∙ are.rows_for_each;
-  holder_for_each = are.holder_for_each;
-  grants_for_each = are.grants_for_each;
-  held_for_each = are.held_for_each;
-  held_right = are.held_right;
-  few_names = are.few_names;
-  few_builds = are.few_builds;
-  few_grants = are.few_grants;
-  builders = are.builders;
-}

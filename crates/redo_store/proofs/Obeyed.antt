@@ -12,9 +12,8 @@ use Rattle.redo_model.specs.Reply.{Refusal, Reply, Okay, Refused, lets_through}
 use Rattle.redo_model.specs.Step.{Answers, Replies, records_after, after, verdict_of, holds_target, locks_after, locks_freed, unless_refused}
 use Rattle.redo_model.proofs.LetThrough.{accepted_through, stopped_same, told_without_lock}
 use Rattle.redo_store.specs.Inside.Changes.{HasEffect}
-use Rattle.redo_store.specs.Stored.{Stored, records_of}
 use Rattle.redo_store.specs.Tables.{Tables, tables_records, locks_of, state_of, calls_of, IsAsBefore}
-use Rattle.redo_store.specs.Inside.Tables.{freed_by}
+use Rattle.redo_store.specs.Inside.Tables.{KeepsLocks, freed_by}
 use Rattle.redo_store.proofs.Rooms.{accepted_of_holder, changed_accepted}
 
 -- the locks without that of the target, if there is one
@@ -90,6 +89,13 @@ none_is_put xs i k = elim (cases_eq i k) [
       ∙ ap (λ (b : Bool). cond b None (get_or xs k None)) (sym (ne_eqb i k ne))
 ]
 
+-- the locks are the same if their lists are
+same_locks : (old new : Tables) → KeepsLocks old new → locks_of new ≡ locks_of old
+same_locks old new kept = λ i. record {
+  holder = λ t. get_or (kept.holders i) t None;
+  grants = λ t. get_or (kept.grants i) t 0;
+}
+
 -- a target without a holder is free
 pub freed_at : (t : Tables) (n : ℕ) → locks_of (record t { holders = set t.holders n None })
     ≡ freed by_number (locks_of t) (Some n)
@@ -111,20 +117,22 @@ accepted_told t s command reply none told through =
     (told_without_lock by_number (state_of t) s command reply none told) through)
 
 -- a command that is no lock, and isn't refused, was applied, and its target's lock freed
-pub obeyed_accepted : (t : Tables) (to : Stored) (s : ℕ) (new : Tables) (command : Command ℕ)
-    (reply : Reply ℕ) → asked_lock command ≡ None
-    → Answers by_number (state_of t) s command reply → lets_through reply ≡ true
-    → HasEffect t.store to s command → tables_records new ≡ records_of to
-    → locks_of new ≡ freed by_number (locks_of t) (freed_by command reply)
-    → state_of new ≡ after by_number (state_of t) s command
-obeyed_accepted t to s new command reply none told through changed records locks =
-    let holds : Bool = holds_target (locks_of t) s command in
-    let replies : Replies by_number (tables_records t) s holds command reply =
-    told_without_lock by_number (state_of t) s command reply none told in
-    let accepted : verdict_of by_number (tables_records t) s holds command ≡ None =
-    accepted_through by_number (tables_records t) s holds command reply replies through in
-    obeyed t s holds new command reply none refl replies
-    (records ∙ changed_accepted t.store to s holds command accepted changed) locks
+pub obeyed_accepted : (old mid new : Tables) (s : ℕ) (command : Command ℕ) (reply : Reply ℕ)
+    → asked_lock command ≡ None → Answers by_number (state_of old) s command reply
+    → lets_through reply ≡ true → HasEffect old mid s command → KeepsLocks old mid
+    → tables_records new ≡ tables_records mid
+    → locks_of new ≡ freed by_number (locks_of mid) (freed_by command reply)
+    → state_of new ≡ after by_number (state_of old) s command
+obeyed_accepted old mid new s command reply none told through changed kept records locks =
+    let holds : Bool = holds_target (locks_of old) s command in
+    let replies : Replies by_number (tables_records old) s holds command reply =
+    told_without_lock by_number (state_of old) s command reply none told in
+    let accepted : verdict_of by_number (tables_records old) s holds command ≡ None =
+    accepted_through by_number (tables_records old) s holds command reply replies through in
+    obeyed old s holds new command reply none refl replies
+    (records ∙ changed_accepted old mid s holds command accepted changed)
+    (locks
+    ∙ ap (λ (l : Locks ℕ). freed by_number l (freed_by command reply)) (same_locks old mid kept))
 
 -- a command whose reply lets nothing through leaves the state
 pub stopped_call : (old counted : Tables) (s : ℕ) (command : Command ℕ) (reply : Reply ℕ)

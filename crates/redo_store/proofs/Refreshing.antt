@@ -1,8 +1,6 @@
 -- A command changes the records and rows at one name, so the memo was right but for that.
 use Rattle.std.proofs.Common.{◌≡◌, ◌∙◌, ◌<◌, ◌≤◌, ℕ, length, Bool, true, false, cond, List, [], ◌∷◌, ◌⊎◌, Option, None, is_some, IsTrue, refl, sym, ap, subst, inl, inr}
 use Rattle.std.specs.List.{Contains}
-use Rattle.std.proofs.Math.ListN.{replicate}
-use Rattle.std.proofs.Math.Path.{fun_ext}
 use Rattle.std.proofs.lemmas.Bool.{false≢true, ne_eqb}
 use Rattle.std.proofs.lemmas.List.{get_or-set_other, get_or-set_same}
 use mathlib.Core.Logic.{dite}
@@ -10,20 +8,19 @@ use native.Mathlib.Decide.{ℕ_discrete}
 use Rattle.redo_model.specs.Command as commands
 use Rattle.redo_model.specs.Names.{Text, put, by_number}
 use Rattle.redo_model.specs.Inside.OutOfDate.{DifferAt}
-use Rattle.redo_model.specs.State.{Cell, Mark, Records, TargetState, Idle, Building, Built, Failed, empty, idle, is_building, no_rows}
+use Rattle.redo_model.specs.State.{Cell, Mark, Records, TargetState, Idle, Building, Built, Failed, idle, is_building}
 use Rattle.redo_model.specs.OutOfDate.{HasReason, OutOfDate, ReasonIn}
 use Rattle.redo_model.proofs.Members.{contains_first, contains_cases, contains_none}
-use Rattle.redo_model.proofs.MorePlaces.{same_everywhere}
 use Rattle.redo_model.proofs.Region.{differ_back, still_out}
 use Rattle.redo_marks.specs.Memo.{IsRight, WasRight, is_out, memo_count}
 use Rattle.redo_records.specs.Cells.{cell_at, with_cell_at}
 use Rattle.redo_records.specs.Rows.{TargetRows, rows_of, with_always, without_rows, rows_count, with_rows}
 use Rattle.redo_store.specs.Inside.Changes.{AreRowsAfter}
 use Rattle.redo_store.specs.declared.hints.Hints.{Hints}
-use Rattle.redo_store.specs.Inside.KeptStore.{KeepsStored, stored_of}
-use Rattle.redo_store.specs.Inside.Stored.{IsStored}
-use Rattle.redo_store.specs.declared.store.Store.TheInside.{Inside}
-use Rattle.redo_store.proofs.Kept.{IsStored-set_cell, IsStored-set_rows}
+use Rattle.redo_store.specs.Inside.Kept.{KeepsTables, tables_of}
+use Rattle.redo_store.specs.Inside.Tables.{AreTables}
+use Rattle.redo_store.specs.declared.redo.Redo.TheInside.{Inside}
+use Rattle.redo_store.proofs.Kept.{AreTables-set_cell, AreTables-set_rows}
 
 other_name : (n m : ℕ) → (Contains (n ∷ []) m → ⊥) → m ≡ n → ⊥
 other_name n m far e = far (subst (Contains (n ∷ [])) (sym e) (contains_first n []))
@@ -193,19 +190,22 @@ module _ (memo : List Bool) (cells : List Cell) (targets : List TargetRows) (n :
             always = λ t far. refl;
           }))
 
--- what all changes of the store have in common: its cells and rows are those of a store, and its
+-- what all changes of the records have in common: the cells and rows are a database's, and the
 -- memo was made right for them
 pub refreshed : {inside : Inside} (cells : List Cell) (targets : List TargetRows) {memo : List Bool}
-    {hints : Hints} → KeepsStored inside → IsStored (record (stored_of inside) { cells = cells; rows = targets })
+    {hints : Hints} → KeepsTables inside
+    → AreTables (record (tables_of inside) { cells = cells; rows = targets })
     → memo_count memo ≡ length cells → IsRight memo (with_rows cells targets)
-    → KeepsStored (record inside { records = cells; rows = targets; memo = memo; hints = hints })
-refreshed cells targets kept stored for_each right = record {
-  stored = stored;
+    → KeepsTables (record inside { records = cells; rows = targets; memo = memo; hints = hints })
+refreshed cells targets kept are for_each right = record {
+  tables = are;
   memo_for_each = for_each;
   memo_right = right;
+  held_for_each = kept.held_for_each;
+  held_right = kept.held_right;
 }
 
-module _ {inside : Inside} (kept : KeepsStored inside) (n : ℕ) where
+module _ {inside : Inside} (kept : KeepsTables inside) (n : ℕ) where
   -- a cell was written: the memo was right but for the name
   pub due_by_cell : (c : Cell) {cells : List Cell} → cells ≡ with_cell_at inside.records n c
       → WasRight (n ∷ []) inside.memo (with_rows cells inside.rows)
@@ -213,31 +213,21 @@ module _ {inside : Inside} (kept : KeepsStored inside) (n : ℕ) where
       subst (λ (cs : List Cell). WasRight (n ∷ []) inside.memo (with_rows cs inside.rows))
       (sym written) (was_right_by_cell inside.memo inside.records inside.rows n kept.memo_right c)
 
-  -- and the store's invariant is kept, if the cell has no more builds than commands were applied
+  -- and the invariant is kept, if the cell has no more builds than there were calls
   pub cell_refreshed : (c : Cell) {cells : List Cell} {memo : List Bool} {hints : Hints}
-      → cells ≡ with_cell_at inside.records n c → c.builds ≤ inside.applied
+      → cells ≡ with_cell_at inside.records n c → c.builds ≤ inside.calls
       → memo_count memo ≡ length cells → IsRight memo (with_rows cells inside.rows)
-      → KeepsStored (record inside { records = cells; memo = memo; hints = hints })
+      → KeepsTables (record inside { records = cells; memo = memo; hints = hints })
   cell_refreshed c {cells} written few =
       refreshed cells inside.rows kept
-      (subst (λ (cs : List Cell). IsStored (record (stored_of inside) { cells = cs })) (sym written)
-      (IsStored-set_cell (stored_of inside) n c kept.stored few))
+      (subst (λ (cs : List Cell). AreTables (record (tables_of inside) { cells = cs }))
+      (sym written) (AreTables-set_cell (tables_of inside) n c kept.tables few))
 
 -- rows of as many targets were written
-pub rows_refreshed : {inside : Inside} (targets : List TargetRows) {memo : List Bool}
-    → KeepsStored inside → rows_count targets ≡ rows_count inside.rows
-    → memo_count memo ≡ length inside.records → IsRight memo (with_rows inside.records targets)
-    → KeepsStored (record inside { rows = targets; memo = memo })
+pub rows_refreshed : {inside : Inside} (targets : List TargetRows) → KeepsTables inside
+    → rows_count targets ≡ rows_count inside.rows
+    → IsRight inside.memo (with_rows inside.records targets)
+    → KeepsTables (record inside { rows = targets })
 rows_refreshed {inside} targets kept same =
     refreshed inside.records targets kept
-    (IsStored-set_rows (stored_of inside) targets kept.stored same)
-
--- the records of the empty state
-pub empty_records : (count : ℕ) (cells : List Cell) (targets : List TargetRows)
-    → cells ≡ replicate count idle → rows_of targets ≡ no_rows
-    → with_rows cells targets ≡ empty.records
-empty_records count cells targets all_idle none =
-    let each : (λ (n : ℕ). cell_at cells n) ≡ (λ n. idle) =
-    ap (λ (cs : List Cell). λ (n : ℕ). cell_at cs n) all_idle
-    ∙ fun_ext (λ n. same_everywhere count n idle) in
-    λ i. record { cell = each i; rows = none i }
+    (AreTables-set_rows (tables_of inside) targets kept.tables same) kept.memo_for_each

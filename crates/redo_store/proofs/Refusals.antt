@@ -1,4 +1,4 @@
--- The verdict on a command as the store computes it.
+-- The verdict on a command as the database computes it.
 use Rattle.std.proofs.Common.{◌≡◌, ℕ, Bool, Option, Some, None, refl, sym, ap, ◌∙◌, arith}
 use Rattle.std.specs.Option.{option_or}
 use Rattle.redo_terms.specs.declared.command.Command.{Command}

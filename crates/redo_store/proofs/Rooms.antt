@@ -1,4 +1,4 @@
--- Reserved memory, and what it leaves of the store.
+-- Reserved memory, and what it leaves.
 use Rattle.std.proofs.Common.{◌≡◌, ℕ, Bool, true, false, List, None, sym, ap, ◌∙◌}
 use Rattle.std.specs.Prelude.{IsTrue, Contains}
 use Rattle.std.specs.List.{list_all}
@@ -9,7 +9,7 @@ use Rattle.redo_model.specs.Names.{Naming, by_number}
 use Rattle.redo_model.specs.State.{Records}
 use Rattle.redo_model.specs.Step.{verdict_of, effect_of, records_after, unless_refused}
 use Rattle.redo_store.specs.Inside.Changes.{HasEffect}
-use Rattle.redo_store.specs.Stored.{Stored, records_of}
+use Rattle.redo_store.specs.Tables.{Tables, tables_records}
 
 -- a test that is true for each of the names
 pub all_of_them : (test : ℕ → Bool) (ns : List ℕ) → ((n : ℕ) → Contains ns n → IsTrue (test n))
@@ -39,11 +39,11 @@ accepted_of_holder naming r s false Targets none = none
 accepted_of_holder naming r s false Sources none = none
 
 -- the effect of an accepted command is what the command leaves
-pub changed_accepted : (old new : Stored) (s : ℕ) (holds : Bool) (command : Command ℕ)
-    → verdict_of by_number (records_of old) s holds command ≡ None
+pub changed_accepted : (old new : Tables) (s : ℕ) (holds : Bool) (command : Command ℕ)
+    → verdict_of by_number (tables_records old) s holds command ≡ None
     → HasEffect old new s command
-    → records_of new ≡ records_after by_number (records_of old) s holds command
+    → tables_records new ≡ records_after by_number (tables_records old) s holds command
 changed_accepted old new s holds command accepted changed =
     changed
-    ∙ ap (λ verdict. unless_refused verdict (records_of old)
-    (effect_of by_number (records_of old) s command)) (sym accepted)
+    ∙ ap (λ verdict. unless_refused verdict (tables_records old)
+    (effect_of by_number (tables_records old) s command)) (sym accepted)

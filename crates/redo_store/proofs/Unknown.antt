@@ -7,27 +7,24 @@ use Rattle.redo_model.specs.Inside.Users.{IsUnused}
 use Rattle.redo_model.specs.OutOfDate.{HasFile}
 use Rattle.redo_model.specs.State.{Mark, idle}
 use Rattle.redo_records.specs.Rows.{TargetRows, HasChangeRowOn, HasCreatedRowOn, bare, rows_count, rows_of, slot_at, target_at}
-use Rattle.redo_store.specs.Inside.Stored.{IsStored}
-use Rattle.redo_store.specs.Stored.{Stored, count_of, records_of}
-use Rattle.redo_store.specs.Tables.{Tables, locks_of, state_of, tables_count}
 use Rattle.redo_store.specs.Inside.Tables.{AreTables}
+use Rattle.redo_store.specs.Tables.{Tables, locks_of, state_of, tables_count, tables_records}
 
 -- only a number below the count has a file
-pub file_below : (t : Stored) (n : ℕ) → HasFile (records_of t) n → n < count_of t
-file_below t n h = elim (cases_lt n (count_of t)) [
+pub file_below : (t : Tables) (n : ℕ) → HasFile (tables_records t) n → n < tables_count t
+file_below t n h = elim (cases_lt n (tables_count t)) [
   | inl l ↦ l
   | inr past ↦
       absurd (false≢true (sym (ap (λ c. is_some c.file) (get_or_past t.cells n idle past)) ∙ h))
 ]
 
-pub unknown_past : (tables : Tables) → IsStored tables.store → AreTables tables → (n : ℕ)
-    → tables_count tables ≤ n → IsUnknown (state_of tables) n
-unknown_past tables stored are n past =
-    let rows = tables.store.rows in
-    let bare_there : target_at rows n ≡ bare =
-    get_or_past rows n bare (subst (λ k. k ≤ n) (sym stored.rows_for_each) past) in
+pub unknown_past : (tables : Tables) → AreTables tables → (n : ℕ) → tables_count tables ≤ n
+    → IsUnknown (state_of tables) n
+unknown_past tables are n past =
+    let bare_there : target_at tables.rows n ≡ bare =
+    get_or_past tables.rows n bare (subst (λ k. k ≤ n) (sym are.rows_for_each) past) in
     record {
-      cell = get_or_past tables.store.cells n idle past;
+      cell = get_or_past tables.cells n idle past;
       change = λ m. ap (λ (t : TargetRows). (slot_at t.slots m).change) bare_there;
       created = λ m. ap (λ (t : TargetRows). (slot_at t.slots m).created) bare_there;
       always = ap (λ (t : TargetRows). t.always) bare_there;
@@ -46,10 +43,10 @@ none_there None off = refl
 none_there (Some mark) off = absurd (off refl)
 
 -- no row is on a number past the end, if each is on one below it
-pub unused_past : (s : Stored) → rows_count s.rows ≡ count_of s
+pub unused_past : (s : Tables) → rows_count s.rows ≡ tables_count s
     → ((t n : ℕ) → HasChangeRowOn (rows_of s.rows) t n → n < rows_count s.rows)
     → ((t n : ℕ) → HasCreatedRowOn (rows_of s.rows) t n → n < rows_count s.rows) → (n : ℕ)
-    → count_of s ≤ n → IsUnused (records_of s) n
+    → tables_count s ≤ n → IsUnused (tables_records s) n
 unused_past s sized changes createds n past =
     let rows = rows_of s.rows in
     record {

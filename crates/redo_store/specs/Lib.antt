@@ -1,4 +1,3 @@
 pub mod Inside
 pub mod Meaning
-pub mod Stored
 pub mod Tables

@@ -1,5 +1,5 @@
-//! The redo database for one thread: the store of the records, and the database with its locks. Which targets are out
-//! of date is kept in a memo that is corrected after each change, in the region of the names that changed.
+//! The redo database for one thread: what is known of each name, the rows, the locks, and a memo of which targets are
+//! out of date, which is corrected after each change, in the region of the names that changed.
 #![tactic(auto)]
 
 mod database;
@@ -8,7 +8,6 @@ mod hints;
 mod needs;
 mod reason;
 mod redo;
-mod store;
 mod table;
 mod targets;
 mod users;
@@ -17,6 +16,5 @@ mod why;
 pub use deps::Deps;
 pub use reason::Reason;
 pub use redo::{Loading, Redo};
-pub use store::Store;
 pub use users::Users;
 pub use why::Why;

@@ -5,15 +5,22 @@ ghost use Rattle.redo_model.specs.Step.{Answers, after, holds_target, verdict_of
 ghost use Rattle.redo_model.specs.Renaming.{IsBelow, IsReplyBelow};
 ghost use Rattle.redo_terms.specs.Meaning.{command_of, reply_of};
 
-use crate::store::Store;
-use redo_marks::Bits;
+use crate::hints::Hints;
+use redo_marks::{Bits, Memo};
+use redo_records::{DepRows, Records};
 use redo_terms::{Command, Reply};
 use std::alloc::{AllocError, Global};
 use std::marker::Model;
 
+mod changes;
+mod lists;
 mod loading;
 mod questions;
+mod refusals;
+mod replies;
+mod room;
 mod spare;
+mod stale;
 mod steps;
 
 pub use loading::Loading;
@@ -21,7 +28,12 @@ pub use loading::Loading;
 /// The database with its locks, for one thread. Names are numbers below the number of names it was made for.
 #[derive(Drop)]
 pub struct Redo {
-    store: Store,
+    records: Records,
+    rows: DepRows,
+    /// What is out of date by the records and the rows.
+    memo: Memo,
+    /// Where a reason to be out of date is looked for first.
+    hints: Hints,
     holders: Vec<Option<u16>>,
     /// The names that have a holder.
     held: Bits,

@@ -1,18 +1,18 @@
-//! The rows of the table of commands as code of the store.
+//! The rows of the table of commands as code of the database.
 
-/// Returns the refusal of a need, if the store and the command's fields don't meet the need. A need about the target
+/// Returns the refusal of a need, if the database and the command's fields don't meet the need. A need about the target
 /// alone is skipped.
 macro_rules! refuse_names_unless {
     (held $refusal:ident $row:tt) => {};
     (resting $refusal:ident $row:tt) => {};
     (own_build $refusal:ident $row:tt) => {};
-    (others $refusal:ident [$store:tt $t:ident $names:ident]) => {
+    (others $refusal:ident [$redo:tt $t:ident $names:ident]) => {
         if is_among($names, *$t) {
             return Some(Refusal::$refusal);
         }
     };
-    (missing $refusal:ident [$store:tt $t:ident $names:ident]) => {
-        if let Some(n) = $store.existing($names) {
+    (missing $refusal:ident [$redo:tt $t:ident $names:ident]) => {
+        if let Some(n) = $redo.existing($names) {
             return Some(Refusal::$refusal(n));
         }
     };
@@ -28,7 +28,7 @@ macro_rules! first_refusal_of_names {
 
 macro_rules! refusals_of_names {
     (
-        [$store:tt $command:ident]
+        [$redo:tt $command:ident]
         $((
             $case:ident $(($($field:ident),*))?,
             $word:literal,
@@ -39,39 +39,39 @@ macro_rules! refusals_of_names {
     ) => {
         match $command {
             $(Command::$case $(($($field),*))? =>
-                first_refusal_of_names!([$store $($($field)*)?] $($need $refusal)*),)*
+                first_refusal_of_names!([$redo $($($field)*)?] $($need $refusal)*),)*
         }
     };
 }
 
-/// The reply to an accepted command, by the word for its answer, the store and allocator, and the command's fields.
+/// The reply to an accepted command, by the word for its answer, the database and allocator, and the command's fields.
 macro_rules! answer {
-    (okay [$store:tt $alloc:tt] $($field:ident)*) => {
+    (okay [$redo:tt $alloc:tt] $($field:ident)*) => {
         Ok(Reply::Okay)
     };
-    (grant [$store:tt $alloc:tt] $t:ident) => {
+    (grant [$redo:tt $alloc:tt] $t:ident) => {
         unreachable!()
     };
-    (digest [$store:tt $alloc:tt] $t:ident $content:ident) => {
+    (digest [$redo:tt $alloc:tt] $t:ident $content:ident) => {
         Ok(Reply::Stamped(Digest::new(digest_of($content))))
     };
-    (stale [$store:tt $alloc:tt] $t:ident $names:ident) => {
-        $store.stale_reply($alloc, $names.as_slice())
+    (stale [$redo:tt $alloc:tt] $t:ident $names:ident) => {
+        $redo.stale_reply($alloc, $names.as_slice())
     };
-    (ood [$store:tt $alloc:tt]) => {
-        $store.ood_reply($alloc)
+    (ood [$redo:tt $alloc:tt]) => {
+        $redo.ood_reply($alloc)
     };
-    (targets [$store:tt $alloc:tt]) => {
-        $store.targets_reply($alloc)
+    (targets [$redo:tt $alloc:tt]) => {
+        $redo.targets_reply($alloc)
     };
-    (sources [$store:tt $alloc:tt]) => {
-        $store.sources_reply($alloc)
+    (sources [$redo:tt $alloc:tt]) => {
+        $redo.sources_reply($alloc)
     };
 }
 
 macro_rules! answers {
     (
-        [$store:tt $alloc:tt $command:ident]
+        [$redo:tt $alloc:tt $command:ident]
         $((
             $case:ident $(($($field:ident),*))?,
             $word:literal,
@@ -81,48 +81,48 @@ macro_rules! answers {
         ))*
     ) => {
         match $command {
-            $(Command::$case $(($($field),*))? => answer!($answer [$store $alloc] $($($field)*)?),)*
+            $(Command::$case $(($($field),*))? => answer!($answer [$redo $alloc] $($($field)*)?),)*
         }
     };
 }
 
-/// The change of an accepted command, by the word for its effect, the store and session, and the command's fields.
+/// The change of an accepted command, by the word for its effect, the database and session, and the command's fields.
 macro_rules! effect {
-    (nothing [$store:tt $s:tt] $($field:ident)*) => {
+    (nothing [$redo:tt $s:tt] $($field:ident)*) => {
         {}
     };
-    (set_file [$store:tt $s:tt] $n:ident $stamp:ident) => {
-        $store.set_file(*$n, Some(**$stamp))
+    (set_file [$redo:tt $s:tt] $n:ident $stamp:ident) => {
+        $redo.set_file(*$n, Some(**$stamp))
     };
-    (clear_file [$store:tt $s:tt] $n:ident) => {
-        $store.set_file(*$n, None)
+    (clear_file [$redo:tt $s:tt] $n:ident) => {
+        $redo.set_file(*$n, None)
     };
-    (start [$store:tt $s:tt] $t:ident) => {
-        $store.start($s, *$t)
+    (start [$redo:tt $s:tt] $t:ident) => {
+        $redo.start($s, *$t)
     };
-    (put_changes [$store:tt $s:tt] $t:ident $names:ident) => {
-        $store.put_changes(*$t, $names)
+    (put_changes [$redo:tt $s:tt] $t:ident $names:ident) => {
+        $redo.put_changes(*$t, $names)
     };
-    (put_created [$store:tt $s:tt] $t:ident $names:ident) => {
-        $store.put_created(*$t, $names)
+    (put_created [$redo:tt $s:tt] $t:ident $names:ident) => {
+        $redo.put_created(*$t, $names)
     };
-    (put_always [$store:tt $s:tt] $t:ident) => {
-        $store.put_always(*$t)
+    (put_always [$redo:tt $s:tt] $t:ident) => {
+        $redo.put_always(*$t)
     };
-    (stamp [$store:tt $s:tt] $t:ident $content:ident) => {
-        $store.stamp(*$t, $content)
+    (stamp [$redo:tt $s:tt] $t:ident $content:ident) => {
+        $redo.stamp(*$t, $content)
     };
-    (done [$store:tt $s:tt] $t:ident $stamp:ident) => {
-        $store.done(*$t, unboxed($stamp))
+    (done [$redo:tt $s:tt] $t:ident $stamp:ident) => {
+        $redo.done(*$t, unboxed($stamp))
     };
-    (failed [$store:tt $s:tt] $t:ident) => {
-        $store.failed(*$t)
+    (failed [$redo:tt $s:tt] $t:ident) => {
+        $redo.failed(*$t)
     };
 }
 
 macro_rules! effects {
     (
-        [$store:tt $s:tt $command:ident]
+        [$redo:tt $s:tt $command:ident]
         $((
             $case:ident $(($($field:ident),*))?,
             $word:literal,
@@ -132,7 +132,7 @@ macro_rules! effects {
         ))*
     ) => {
         match $command {
-            $(Command::$case $(($($field),*))? => effect!($effect [$store $s] $($($field)*)?),)*
+            $(Command::$case $(($($field),*))? => effect!($effect [$redo $s] $($($field)*)?),)*
         }
     };
 }

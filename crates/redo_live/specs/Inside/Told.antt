@@ -13,8 +13,7 @@ use Rattle.redo_terms.specs.declared.reply.Reply.{Reply as ReplyOfNumbers}
 use Rattle.redo_text.specs.Questions.{line_fault}
 use Rattle.redo_text.specs.declared.fault.ReadFault.{ReadFault}
 use Rattle.redo_text.specs.declared.fault.ReadFault.TheVariants as read
-use Rattle.redo_store.specs.Stored.{has_room_for}
-use Rattle.redo_store.specs.Tables.{state_of, tables_count}
+use Rattle.redo_store.specs.Tables.{has_room_for, state_of, tables_count}
 use Rattle.redo_history.specs.Histories.{line_text_of}
 use Rattle.redo_live.specs.Inside.Answered.{IsAnswered, logged_text}
 use Rattle.redo_live.specs.Inside.Ended.{IsEnded, end_text}
@@ -46,7 +45,7 @@ pub record IsDue (live : LiveState) (line : LineOfNumbers) (reply : ReplyOfNumbe
   pub calls : HasCallsLeft live
   pub count : length live.names ≤ tables_count live.tables
   pub below : IsBelow (length live.names) (command_of line.command)
-  pub room : has_room_for live.tables.store (command_of line.command) ≡ true
+  pub room : has_room_for live.tables (command_of line.command) ≡ true
   pub answers : Answers by_number (state_of live.tables) line.session (command_of line.command)
       (reply_of reply)
   pub sorted : IsSortedReply (by_text live.names).order (reply_of reply) (reply_of line.reply)

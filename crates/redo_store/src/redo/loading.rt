@@ -1,14 +1,15 @@
 //! A database that is made from its parts.
-ghost use Rattle.std.specs.Prelude.{◌≡◌, ℕ, ◌<◌, Some, max, length, slice_set, IfOk, OnOk, OnErr};
+ghost use Rattle.std.specs.Prelude.{◌≡◌, ℕ, ◌<◌, ◌↔◌, Some, max, length, slice_set, Contains, IfOk, OnOk, OnErr};
 ghost use Rattle.redo_model.specs.State.{Building, empty, mark_in, target_state};
 ghost use Rattle.redo_records.specs.Cells.{cell_at, with_cell_at};
 ghost use Rattle.redo_records.specs.Meaning.{row_mark_of};
 ghost use Rattle.redo_records.specs.Rows.{rows_of, with_always, with_change, with_created};
 ghost use Rattle.redo_store.specs.Tables.{state_of, tables_records, locks_of, tables_count, calls_of};
 
+use crate::database::correct;
+use crate::hints::Hints;
 use crate::redo::Redo;
-use crate::store::Store;
-use redo_marks::Bits;
+use redo_marks::{Bits, Memo};
 use redo_records::{Cell, DepRows, Mark, Records};
 use std::alloc::{AllocError, Global};
 use std::marker::Model;
@@ -48,6 +49,13 @@ fn set_held(held: &mut Bits, n: u32, is_held: bool)
     } else {
         held.remove(n);
     }
+}
+
+/// All numbers below the count.
+fn all_numbers(alloc: Global, count: u32) -> Result<Vec<u32>, AllocError>
+    ensures { IfOk result (λ numbers. (n : ℕ) → Contains numbers.items n ↔ (n < count)) }
+{
+    (0..count).collect(alloc)
 }
 
 impl Loading {
@@ -171,9 +179,16 @@ impl Loading {
             → target_state (tables_records redo) t ≡ Building s
             → (locks_of redo).holder t ≡ Some s) }
     {
-        let store = Store::loaded(alloc, self.records, self.rows, self.most)?;
+        let count = self.records.count() as u32;
+        let all = all_numbers(alloc, count)?;
+        let mut memo = Memo::new(alloc, count)?;
+        let mut hints = Hints::new(alloc, count)?;
+        correct(&mut memo, &mut hints, &self.records, &self.rows, &all);
         Ok(Redo {
-            store,
+            records: self.records,
+            rows: self.rows,
+            memo,
+            hints,
             holders: self.holders,
             held: self.held,
             grants: self.grants,

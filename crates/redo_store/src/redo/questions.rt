@@ -9,22 +9,22 @@ ghost use Rattle.redo_model.specs.Inside.Users.{AreUsersBelow, IsUnused};
 ghost use Rattle.redo_model.specs.Inside.Unknown.{IsUnknown};
 ghost use Rattle.redo_model.specs.Why.{TellsWhy};
 ghost use Rattle.redo_model.specs.Inside.Why.{IsWhyBelow};
-ghost use Rattle.redo_model.specs.OutOfDate.{OutOfDate};
-ghost use Rattle.redo_model.specs.State.{is_building, target_state};
+ghost use Rattle.redo_model.specs.OutOfDate.{HasChangeRow, HasCreatedRow, OutOfDate};
+ghost use Rattle.redo_model.specs.State.{target_state};
 ghost use Rattle.redo_model.specs.Renaming.{AllBelow, IsBelow};
 ghost use Rattle.redo_store.specs.Meaning.{deps_of, users_of, why_of};
 ghost use Rattle.redo_records.specs.Meaning.{target_state_of};
 ghost use Rattle.redo_records.specs.Rows.{slot_at};
 ghost use Rattle.redo_records.specs.Target.{Ascending};
-ghost use Rattle.redo_model.specs.Names.{by_number};
+ghost use Rattle.redo_model.specs.Names.{IsListed, by_number};
 ghost use Rattle.redo_terms.specs.Meaning.{command_of, reply_of};
 ghost use Rattle.redo_store.specs.Tables.{state_of, tables_records, locks_of, tables_count};
 
 use crate::deps::Deps;
 use crate::redo::Redo;
-use crate::store::lists::push_if;
-use crate::users::Users;
-use crate::why::Why;
+use crate::redo::lists::push_if;
+use crate::users::{Users, numbers_at};
+use crate::why::{Why, search};
 use redo_records::{Cell, Slot, State};
 use redo_terms::{Command, FileStamp, Reply};
 use std::alloc::{AllocError, Global};
@@ -50,7 +50,20 @@ impl Redo {
             (λ found. IfSome found (λ why. IsWhyBelow (tables_count self.old) (why_of why))) }
         ensures up_to_date { (OutOfDate (tables_records self.old) t → ⊥) → IsOk result }
     {
-        self.store.why(alloc, t)
+        if !self.is_out(t) {
+            return Ok(None);
+        }
+        let memo = &mut self.memo;
+        let found = search(
+            alloc,
+            &self.records,
+            &self.rows,
+            &memo.out,
+            t,
+            &mut memo.region,
+        );
+        memo.region.unmark_queue();
+        found
     }
 
     /// On which names the target has rows.
@@ -60,7 +73,11 @@ impl Redo {
             (λ deps. AreDeps by_number (tables_records self.now) t (deps_of deps)) }
         ensures below { IfOk result (λ deps. AreDepsBelow (tables_count self.now) (deps_of deps)) }
     {
-        self.store.deps(alloc, t)
+        Ok(Deps {
+            change: self.change_names(alloc, t)?,
+            created: self.created_names(alloc, t)?,
+            always: self.rows.always(t),
+        })
     }
 
     /// Which targets have rows on it.
@@ -71,7 +88,10 @@ impl Redo {
         ensures below { IfOk result
             (λ users. AreUsersBelow (tables_count self.now) (users_of users)) }
     {
-        self.store.users(alloc, n)
+        Ok(Users {
+            change: self.change_users(alloc, n)?,
+            created: self.created_users(alloc, n)?,
+        })
     }
 
     /// All that is known of it but rows and locks.
@@ -79,7 +99,7 @@ impl Redo {
         requires { n < tables_count self.now }
         ensures { result.now ≡ (tables_records self.now).cell n }
     {
-        self.store.cell(n)
+        self.records.cell(n)
     }
 
     /// Its state.
@@ -87,7 +107,7 @@ impl Redo {
         requires { n < tables_count self.now }
         ensures { target_state_of result ≡ target_state (tables_records self.now) n }
     {
-        self.store.state(n)
+        self.records.state(n)
     }
 
     /// The stamp of its file.
@@ -95,7 +115,7 @@ impl Redo {
         requires { n < tables_count self.now }
         ensures { result ≡ ((tables_records self.now).cell n).file }
     {
-        self.store.file(n)
+        self.records.file(n)
     }
 
     /// The session that holds its lock.
@@ -125,7 +145,7 @@ impl Redo {
             → (slot_at result.now n).created ≡ (tables_records self.now).rows.created t n }
         ensures ascending { Ascending result.now }
     {
-        self.store.slots(t)
+        self.rows.slots_of(t)
     }
 
     /// Whether the target has an always row.
@@ -133,7 +153,7 @@ impl Redo {
         requires { t < tables_count self.now }
         ensures { result ≡ (tables_records self.now).rows.always t }
     {
-        self.store.always(t)
+        self.rows.always(t)
     }
 
     /// How many numbers there are for names. Nothing is known of any other number.
@@ -145,8 +165,8 @@ impl Redo {
         ensures ungranted { (n : ℕ) → tables_count self.now ≤ n
             → (locks_of self.now).grants n ≡ 0 }
     {
-        self.store.uses_its_names();
-        self.store.count()
+        self.rows.are_on_names();
+        self.records.count() as u32
     }
 
     /// The targets that the session holds, in the order of their numbers.
@@ -191,14 +211,6 @@ impl Redo {
         Ok(sessions)
     }
 
-    /// Whether it is being built.
-    pub fn is_building(&self, t: u32) -> bool
-        requires { t < tables_count self.now }
-        ensures { result ≡ is_building (target_state (tables_records self.now) t) }
-    {
-        self.store.is_building(t)
-    }
-
     /// Whether the command with this reply changes the state.
     pub fn changes(&self, command: &Command, reply: &Reply) -> bool
         requires { IsBelow (tables_count self.now) (command_of command.now) }
@@ -206,10 +218,58 @@ impl Redo {
             ≡ changes (tables_records self.now) (command_of command.now) (reply_of reply.now) }
     {
         match command {
-            Command::File(n, stamp) => !self.store.has_stamp(*n, **stamp),
-            Command::Gone(n) => self.store.has_file(*n),
+            Command::File(n, stamp) => !self.has_stamp(*n, **stamp),
+            Command::Gone(n) => self.has_file(*n),
             Command::Ood | Command::Targets | Command::Sources => false,
             _ => reply.lets_through(),
         }
+    }
+
+    /// The names on which the target has a change row.
+    fn change_names(&self, alloc: Global, t: u32) -> Result<Vec<u32>, AllocError>
+        requires { t < tables_count self.now }
+        ensures listed { IfOk result
+            (λ names. IsListed by_number (HasChangeRow (tables_records self.now) t) names.items) }
+        ensures below { IfOk result (λ names. AllBelow (tables_count self.now) names.items) }
+    {
+        let mut names = Vec::new(alloc);
+        for slot in self.rows.slots_of(t) {
+            push_if(&mut names, slot.name(), slot.has_change())?;
+        }
+        Ok(names)
+    }
+
+    /// The names on which the target has a created row.
+    fn created_names(&self, alloc: Global, t: u32) -> Result<Vec<u32>, AllocError>
+        requires { t < tables_count self.now }
+        ensures listed { IfOk result
+            (λ names. IsListed by_number (HasCreatedRow (tables_records self.now) t) names.items) }
+        ensures below { IfOk result (λ names. AllBelow (tables_count self.now) names.items) }
+    {
+        let mut names = Vec::new(alloc);
+        for slot in self.rows.slots_of(t) {
+            push_if(&mut names, slot.name(), slot.created())?;
+        }
+        Ok(names)
+    }
+
+    /// The targets with a change row on it.
+    fn change_users(&self, alloc: Global, n: u32) -> Result<Vec<u32>, AllocError>
+        requires { n < tables_count self.now }
+        ensures listed { IfOk result (λ users. IsListed by_number
+            (λ t. HasChangeRow (tables_records self.now) t n) users.items) }
+        ensures below { IfOk result (λ users. AllBelow (tables_count self.now) users.items) }
+    {
+        numbers_at(alloc, self.rows.needed_by(n))
+    }
+
+    /// The targets with a created row on it.
+    fn created_users(&self, alloc: Global, n: u32) -> Result<Vec<u32>, AllocError>
+        requires { n < tables_count self.now }
+        ensures listed { IfOk result (λ users. IsListed by_number
+            (λ t. HasCreatedRow (tables_records self.now) t n) users.items) }
+        ensures below { IfOk result (λ users. AllBelow (tables_count self.now) users.items) }
+    {
+        numbers_at(alloc, self.rows.awaited_by(n))
     }
 }

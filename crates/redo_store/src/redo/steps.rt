@@ -1,5 +1,5 @@
-//! The three steps of a call: the reply, reserving memory, and the change.
-ghost use Rattle.std.specs.Prelude.{◌≡◌, ℕ, ◌+◌, ◌^◌, ◌<◌, Some, None, true, slice_set, IfOk, IsOk, IsSome, OnOk};
+//! The steps of a call: the reply, and after memory was reserved the change.
+ghost use Rattle.std.specs.Prelude.{◌≡◌, ℕ, ◌+◌, ◌^◌, ◌<◌, Some, None, true, false, slice_set, IfOk, IsOk, IsSome};
 ghost use Rattle.redo_model.specs.Names.{by_number};
 ghost use Rattle.redo_model.specs.Command as commands;
 ghost use Rattle.redo_model.specs.Command.{asked_lock};
@@ -7,8 +7,7 @@ ghost use Rattle.redo_model.specs.Reply.{lets_through};
 ghost use Rattle.redo_model.specs.Step.{Answers, after, is_held_by, holds_target, verdict_of};
 ghost use Rattle.redo_model.specs.Renaming.{IsBelow, IsReplyBelow};
 ghost use Rattle.redo_terms.specs.Meaning.{command_of, reply_of};
-ghost use Rattle.redo_store.specs.Stored.{has_room_for};
-ghost use Rattle.redo_store.specs.Tables.{state_of, tables_records, locks_of, tables_count, calls_of, IsAsBefore};
+ghost use Rattle.redo_store.specs.Tables.{state_of, locks_of, tables_count, calls_of, has_room_for, lists_names};
 ghost use Rattle.redo_store.specs.Inside.Tables.{freed_by, HasCallsLeft};
 
 use crate::redo::Redo;
@@ -36,7 +35,7 @@ fn freed_by(command: &Command, reply: &Reply) -> Option<u32>
 }
 
 impl Redo {
-    /// The reply that `call` gives, without its change. A lock and a refusal allocate nothing.
+    /// The reply that `call` gives, without its change. Only the lists of names allocate, and a refusal doesn't.
     pub fn reply(&self, alloc: Global, session: u16, command: &Command) -> Result<Reply, AllocError>
         requires numbers { IsBelow (tables_count self.now) (command_of command.now) }
         requires calls { calls_of self.now + 1 < 2 ^ 32 }
@@ -45,6 +44,7 @@ impl Redo {
         ensures below { IfOk result
             (λ reply. IsReplyBelow (tables_count self.now) (reply_of reply)) }
         ensures lock { IsSome (asked_lock (command_of command.now)) → IsOk result }
+        ensures ok { lists_names (command_of command.now) ≡ false → IsOk result }
         ensures refused { IsSome (verdict_of by_number (state_of self.now).records session
             (holds_target (state_of self.now).locks session (command_of command.now))
             (command_of command.now)) → IsOk result }
@@ -53,27 +53,16 @@ impl Redo {
             Some(t) => Ok(self.lock_reply(t)),
             None => {
                 let holds = self.holds_target(session, command);
-                self.store.reply(alloc, session, command, holds)
+                self.reply_without_lock(alloc, session, command, holds)
             }
         }
-    }
-
-    /// Reserves memory for the change of a command, and changes nothing else. Allocates nothing if it is reserved
-    /// already.
-    pub fn reserve(&mut self, command: &Command) -> Result<(), AllocError>
-        requires numbers { IsBelow (tables_count self.old) (command_of command.now) }
-        ensures same { IsAsBefore self.old self.new }
-        ensures made { OnOk result (has_room_for self.new.store (command_of command.now) ≡ true) }
-        ensures ok { has_room_for self.old.store (command_of command.now) ≡ true → IsOk result }
-    {
-        self.store.make_room(command)
     }
 
     /// The change of a session's command with this reply. Allocates nothing.
     pub fn change(&mut self, session: u16, command: &Command, reply: &Reply)
         requires numbers { IsBelow (tables_count self.old) (command_of command.now) }
         requires calls { calls_of self.old + 1 < 2 ^ 32 }
-        requires room { has_room_for self.old.store (command_of command.now) ≡ true }
+        requires room { has_room_for self.old (command_of command.now) ≡ true }
         requires answers { Answers by_number (state_of self.old) session
             (command_of command.now) (reply_of reply.now) }
         ensures after { state_of self.new
@@ -132,7 +121,7 @@ impl Redo {
     /// The change of a command that isn't refused, after the call was counted.
     fn obey(&mut self, session: u16, command: &Command, reply: &Reply)
         requires numbers { IsBelow (tables_count self.old) (command_of command.now) }
-        requires room { has_room_for self.old.store (command_of command.now) ≡ true }
+        requires room { has_room_for self.old (command_of command.now) ≡ true }
         requires left { HasCallsLeft self.old }
         requires answers { Answers by_number (state_of self.old) session
             (command_of command.now) (reply_of reply.now) }
@@ -145,7 +134,7 @@ impl Redo {
         match asked_lock(command) {
             Some(t) => self.grant(session, t),
             None => {
-                self.store.apply_accepted(session, command);
+                self.apply(session, command);
                 if let Some(t) = freed_by(command, reply) {
                     self.free(t);
                 }

@@ -3,19 +3,20 @@ use Rattle.redo_model.specs.Inside.Unknown.{IsUnknown}
 use Rattle.redo_model.specs.Inside.Users.{IsUnused}
 use Rattle.redo_store.specs.Inside.Kept.{tables_of}
 use Rattle.redo_store.specs.Tables.{Tables, locks_of, state_of, tables_count, tables_records}
-use Rattle.redo_store.proofs.Unknown.{ungranted_past, unknown_past}
+use Rattle.redo_store.proofs.Unknown.{ungranted_past, unknown_past, unused_past}
 use Rattle.redo_store.proofs.redo.Redo.count.Goals as goal
 
 pub returns-clause-others : goal.returns-clause-others
 returns-clause-others c =
     subst (λ (tables : Tables). (n : ℕ) → tables_count tables ≤ n → IsUnknown (state_of tables) n)
-    c.self.view_is
-    (unknown_past (tables_of c.self.inside) c.count.ensures.stored c.self.invariant.tables)
+    c.self.view_is (unknown_past (tables_of c.self.inside) c.self.invariant.tables)
 
 pub returns-clause-unused : goal.returns-clause-unused
 returns-clause-unused c =
     subst (λ (tables : Tables). (n : ℕ) → tables_count tables ≤ n
-    → IsUnused (tables_records tables) n) c.self.view_is c.uses_its_names.ensures
+    → IsUnused (tables_records tables) n) c.self.view_is
+    (unused_past (tables_of c.self.inside) c.self.invariant.tables.rows_for_each
+    c.are_on_names.ensures.change c.are_on_names.ensures.created)
 
 pub returns-clause-ungranted : goal.returns-clause-ungranted
 returns-clause-ungranted c =
