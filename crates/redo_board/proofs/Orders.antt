@@ -5,7 +5,7 @@ use Rattle.std.specs.Prelude.{MatchOption}
 use Rattle.std.specs.declared.cmp.Ordering.{Ordering}
 use Rattle.std.proofs.lemmas.Bool.Decides.{Decides-eqb}
 use Rattle.std.proofs.lemmas.List.Elements.{All-from_recursion, All-contains, Contains-get_or}
-use Rattle.redo_model.specs.Names.{Text, IsListed, numbers, text_at}
+use Rattle.redo_model.specs.Names.{Text, IsListed, numbers, text_at, by_text}
 use Rattle.redo_model.specs.Inside.Names.{IsNaming}
 use Rattle.redo_model.specs.State.{Records}
 use Rattle.redo_model.specs.Command.{Command, File, IfChange, Ood, Targets, Sources}
@@ -13,7 +13,6 @@ use Rattle.redo_model.specs.Reply.{Reply, Refusal, Refused}
 use Rattle.redo_model.specs.Step.{Replies, Tells, verdict_of, records_after, stale_reply}
 use Rattle.redo_model.specs.Renaming.{IsReplyBelow, AllBelow}
 use Rattle.redo_model.proofs.Texts.{texts_are_names}
-use Rattle.redo_order.specs.Orders.{by_text}
 
 -- numbers by their texts are distinguished and ordered strictly
 pub by_text_is_naming : (names : List Text) → IsNaming (by_text names)

@@ -1,10 +1,9 @@
 -- A worker's table agrees with its session's own lines on a command.
 use Rattle.std.proofs.Common.{◌≡◌, ℕ, ◌<◌, List, length, map, Option, Some, None, refl, sym, ◌∙◌}
-use Rattle.redo_model.specs.Names.{Text}
+use Rattle.redo_model.specs.Names.{Text, by_text}
 use Rattle.redo_model.specs.Command.{Command, Lock, Unlock, Start, IfChange, IfCreate, Always, Stamp, Done, Failed, target_of}
 use Rattle.redo_model.specs.Renaming.{IsBelow}
 use Rattle.redo_model.specs.Placed.{line_of}
-use Rattle.redo_terms.specs.Meaning.{by_text}
 use Rattle.redo_journal.specs.Holds.{Says}
 use Rattle.redo_journal.specs.declared.holds.Hold.{Hold}
 use Rattle.redo_board.specs.Core.{Line, way}

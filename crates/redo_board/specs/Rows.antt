@@ -1,9 +1,8 @@
 -- The rows of a board: one for each line of the plan whose command isn't a lock, and one more for
 -- each start.
 use Rattle.std.specs.Prelude.{ℕ, ◌+◌, List, [], ◌∷◌, slice_index_or}
-use Rattle.redo_model.specs.Names.{Naming}
+use Rattle.redo_model.specs.Names.{Naming, by_text}
 use Rattle.redo_model.specs.Command.{Command, Item, Lock, Start, Ood, commands_in}
-use Rattle.redo_order.specs.Orders.{by_text}
 use Rattle.redo_journal.specs.Plans.{PlanOf, script_of}
 
 -- numbers are ordered as their names

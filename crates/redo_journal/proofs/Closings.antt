@@ -4,7 +4,7 @@ use Rattle.std.proofs.Math.Seq.{drop-cons}
 use Rattle.std.specs.Option.{option_map}
 use Rattle.std.specs.List.{AllByRecursion, filter_map, cons_option}
 use Rattle.std.proofs.lemmas.List.Elements.{recursion_from_All}
-use Rattle.redo_model.specs.Names.{Text, Naming}
+use Rattle.redo_model.specs.Names.{Text, Naming, by_text}
 use Rattle.redo_model.specs.Command as commands
 use Rattle.redo_model.specs.Command.{Unlock, Failed, asked_lock}
 use Rattle.redo_model.specs.Renaming.{IsBelow, AllBelow}
@@ -12,7 +12,6 @@ use Rattle.redo_model.specs.History.{Line}
 use Rattle.redo_model.specs.Placed.{line_of}
 use Rattle.redo_model.specs.Closing.{holds, lesser_of, least, held_in, letting_go, closing_of}
 use Rattle.redo_model.proofs.ClosingBelow.{AllAskBelow, locks_below, closing_below}
-use Rattle.redo_terms.specs.Meaning.{by_text}
 use Rattle.redo_journal.specs.declared.entry.Entry.{Entry}
 use Rattle.redo_journal.specs.declared.holds.Hold.{Hold}
 use Rattle.redo_journal.specs.Journals.{command_told, lines_told}

@@ -1,9 +1,8 @@
 -- The table after one line more.
 use Rattle.std.proofs.Common.{◌≡◌, ℕ, ◌<◌, Bool, List, [], ◌∷◌, ◌++◌, refl, sym, ap, ◌∙◌, subst}
-use Rattle.redo_model.specs.Names.{Text, Naming}
+use Rattle.redo_model.specs.Names.{Text, Naming, by_text}
 use Rattle.redo_model.specs.History.{Line}
 use Rattle.redo_model.specs.Closing.{holds_then, holds_after, builds_then, builds_after}
-use Rattle.redo_terms.specs.Meaning.{by_text}
 use Rattle.redo_journal.specs.declared.holds.Hold.{Hold}
 use Rattle.redo_journal.specs.Holds.{Says, Notes}
 

@@ -1,6 +1,6 @@
 -- What a table says of the names that a session holds and builds.
 use Rattle.std.specs.Prelude.{◌≡◌, ℕ, ◌<◌, false, List, map, length, All, slice_index_or}
-use Rattle.redo_model.specs.Names.{Text}
+use Rattle.redo_model.specs.Names.{Text, by_text}
 use Rattle.redo_model.specs.Command.{Command}
 use Rattle.redo_model.specs.Command as commands
 use Rattle.redo_model.specs.Reply.{Reply}
@@ -8,7 +8,6 @@ use Rattle.redo_model.specs.History.{Line}
 use Rattle.redo_model.specs.Placed.{line_of}
 use Rattle.redo_model.specs.Renaming.{IsBelow}
 use Rattle.redo_model.specs.Closing as closing
-use Rattle.redo_terms.specs.Meaning.{by_text}
 use Rattle.redo_journal.specs.declared.holds.Hold.{Hold}
 use Rattle.redo_journal.specs.declared.entry.Entry.{Entry}
 use Rattle.redo_journal.specs.Journals.{command_told, lines_told}

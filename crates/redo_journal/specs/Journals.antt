@@ -1,13 +1,13 @@
 -- The meaning of the sessions' journals.
 use Rattle.std.specs.Prelude.{◌≡◌, ℕ, ◌≤◌, ◌↔◌, List, [], length, map, Option, option_map, All, IsSome, slice_get, slice_index_or}
 use Rattle.std.specs.Option.{unwrap_or}
-use Rattle.redo_model.specs.Names.{Naming}
+use Rattle.redo_model.specs.Names.{Naming, by_text}
 use Rattle.redo_model.specs.Command as commands
 use Rattle.redo_model.specs.Command.{Item, Ood, commands_in}
 use Rattle.redo_model.specs.Placed.{PlacedLine}
 use Rattle.redo_model.specs.Placed as placed
 use Rattle.redo_model.specs.Journals.{IsJournal}
-use Rattle.redo_terms.specs.Meaning.{reply_of, by_text}
+use Rattle.redo_terms.specs.Meaning.{reply_of}
 use Rattle.redo_journal.specs.declared.entry.Place.{Place}
 use Rattle.redo_journal.specs.declared.entry.Place.TheVariants.{Row, Granted, Busy, Released}
 use Rattle.redo_journal.specs.declared.entry.Closing.{Closing}

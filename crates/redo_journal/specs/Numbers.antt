@@ -1,9 +1,9 @@
 -- The numbers of entries, and which is the next.
 use Rattle.std.specs.Prelude.{ℕ, List, Option, option_map, slice_index_or}
-use Rattle.redo_model.specs.Names.{Text}
+use Rattle.redo_model.specs.Names.{Text, by_text}
 use Rattle.redo_model.specs.Command.{Item, Ood, commands_in}
 use Rattle.redo_model.specs.Journals.{Numbered, next_of}
-use Rattle.redo_terms.specs.Meaning.{command_of, by_text}
+use Rattle.redo_terms.specs.Meaning.{command_of}
 use Rattle.redo_journal.specs.declared.entry.Entry.{Entry}
 use Rattle.redo_journal.specs.declared.next.Next.{Next}
 use Rattle.redo_journal.specs.Journals.{command_by, lines_told}

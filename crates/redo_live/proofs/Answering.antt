@@ -7,7 +7,7 @@ use Rattle.std.specs.declared.cmp.Ordering.TheVariants.{Less}
 use Rattle.std.proofs.lemmas.Cmp.{nat_cmp_total, on_total}
 use Rattle.std.specs.Ordering.{nat_cmp}
 use Rattle.redo_names.specs.Inside.Names.{AreNames, Extends}
-use Rattle.redo_model.specs.Names.{Text, texts, numbers, text_at, by_number}
+use Rattle.redo_model.specs.Names.{Text, texts, numbers, text_at, by_number, by_text}
 use Rattle.redo_model.specs.State.{State}
 use Rattle.redo_model.specs.Command.{Command, names_in}
 use Rattle.redo_model.specs.Reply.{Reply}
@@ -18,7 +18,6 @@ use Rattle.redo_model.proofs.Texts.{same_texts, texts_are_names}
 use Rattle.redo_model.proofs.Naming.{numbering_is_renaming}
 use Rattle.redo_model.proofs.RepliesByName.{one_number}
 use Rattle.redo_model.proofs.AnswersByName.{answers_by_name}
-use Rattle.redo_terms.specs.Meaning.{by_text}
 use Rattle.redo_store.specs.Tables.{Tables, state_of}
 use Rattle.redo_live.specs.Inside.Ordered.{IsSortedReply}
 use Rattle.redo_live.specs.Inside.Within.{IsStateWithin}

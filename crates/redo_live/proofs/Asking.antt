@@ -9,7 +9,7 @@ use Rattle.std.proofs.lemmas.List.Quantifiers.{position-Some}
 use Rattle.std.proofs.lemmas.Option.{same_Some, slice_get_within, get_or_from_slice_get}
 use Rattle.redo_names.specs.Names.{has}
 use Rattle.redo_names.specs.Inside.Names.{AreNames}
-use Rattle.redo_model.specs.Names.{Text, texts, by_number, text_at}
+use Rattle.redo_model.specs.Names.{Text, texts, by_number, text_at, by_text}
 use Rattle.redo_model.specs.State.{Cell, State, TargetState, target_state}
 use Rattle.redo_model.specs.OutOfDate.{HasChangeRow, HasCreatedRow}
 use Rattle.redo_model.specs.Deps as model
@@ -27,7 +27,6 @@ use Rattle.redo_model.proofs.WhyByName.{why_below, tells_why_by_name, deps_by_na
 use Rattle.redo_model.proofs.UsersByName.{users_by_name, unused_by_name, unused_without_number}
 use Rattle.redo_store.specs.Meaning.{why_of}
 use Rattle.redo_store.specs.declared.why.Why.{Why}
-use Rattle.redo_terms.specs.Meaning.{by_text}
 use Rattle.redo_live.specs.Answers.{Standing}
 use Rattle.redo_live.specs.Inside.Asked.{why_at}
 use Rattle.redo_live.specs.Inside.Ordered.{AreSortedAgain}

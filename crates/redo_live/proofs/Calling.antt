@@ -2,7 +2,7 @@
 use Rattle.std.proofs.Common.{◌≡◌, ◌+◌, ◌*◌, ◌^◌, ◌<◌, arith, ℕ, List, ap, ◌∙◌, sym, subst, length}
 use Rattle.std.specs.Ordering.{nat_cmp}
 use Rattle.redo_names.specs.Inside.Names.{AreNames}
-use Rattle.redo_model.specs.Names.{Text, texts, text_at, by_number}
+use Rattle.redo_model.specs.Names.{Text, texts, text_at, by_number, by_text}
 use Rattle.redo_model.specs.State.{State}
 use Rattle.redo_model.specs.Command.{Command}
 use Rattle.redo_model.specs.Reply.{Reply}
@@ -11,7 +11,6 @@ use Rattle.redo_model.specs.Renaming.{IsBelow, IsReplyBelow, named_command, name
 use Rattle.redo_model.specs.Inside.Renaming.{named_state, numbering}
 use Rattle.redo_model.proofs.StepsByName.{after_by_name}
 use Rattle.redo_model.proofs.Texts.{texts_are_names}
-use Rattle.redo_terms.specs.Meaning.{by_text}
 use Rattle.redo_store.specs.Tables.{Tables, state_of, calls_of}
 use Rattle.redo_live.specs.Inside.LiveState.{LiveState, state_in, calls_in, HasCallsLeft, IsSameDatabase}
 use Rattle.redo_live.specs.Inside.Kept.{IsKept}

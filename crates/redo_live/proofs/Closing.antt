@@ -8,7 +8,7 @@ use Rattle.std.proofs.lemmas.Bool.{false≢true, eq-eqb}
 use Rattle.std.proofs.lemmas.List.{map-append}
 use Rattle.std.proofs.lemmas.List.Elements.{Contains-append_cases}
 use Rattle.redo_names.specs.Inside.Names.{AreNames}
-use Rattle.redo_model.specs.Names.{Text, numbers, texts, text_at}
+use Rattle.redo_model.specs.Names.{Text, numbers, texts, text_at, by_text}
 use Rattle.redo_model.specs.State.{State, is_building, target_state}
 use Rattle.redo_model.specs.Command.{Unlock, Failed}
 use Rattle.redo_model.specs.Step.{after, is_held_by}
@@ -21,7 +21,6 @@ use Rattle.redo_model.proofs.Held.{BuildersHold, builders_hold}
 use Rattle.redo_model.proofs.HistoriesByName.{legal_from_by_name, left_by_name}
 use Rattle.redo_model.proofs.RecordsByName.{state_at_name, value_at_name}
 use Rattle.redo_model.proofs.Texts.{texts_are_names}
-use Rattle.redo_terms.specs.Meaning.{by_text}
 use Rattle.redo_live.specs.Inside.ClosingLines.{letting}
 use Rattle.redo_live.specs.Inside.Within.{IsStateWithin}
 use Rattle.redo_live.specs.Inside.Kept.{IsKept}

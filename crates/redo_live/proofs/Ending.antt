@@ -13,7 +13,7 @@ use Rattle.std.proofs.lemmas.List.Kept.{AllPairs-from_increasing}
 use Rattle.std.proofs.lemmas.List.Sorted.{Contains-permutation, IsPermutation-sym}
 use Rattle.std.proofs.lemmas.Simd.{map-map}
 use Rattle.redo_names.specs.Inside.Names.{AreNames}
-use Rattle.redo_model.specs.Names.{Text, texts, text_at, by_number}
+use Rattle.redo_model.specs.Names.{Text, texts, text_at, by_number, by_text}
 use Rattle.redo_model.specs.State.{State}
 use Rattle.redo_model.specs.Reply as replies
 use Rattle.redo_model.specs.History.{LegalFrom, left_by}
@@ -23,7 +23,7 @@ use Rattle.redo_model.specs.Inside.Ending.{AreHeld, closing_lines_of}
 use Rattle.redo_model.specs.Inside.Renaming.{named_state, numbering, value_at}
 use Rattle.redo_model.proofs.RecordsByName.{value_at_name}
 use Rattle.redo_model.proofs.RepliesByName.{Carries, listing}
-use Rattle.redo_terms.specs.Meaning.{by_text, command_of, line_of, line_at}
+use Rattle.redo_terms.specs.Meaning.{command_of, line_of, line_at}
 use Rattle.redo_terms.specs.declared.reply.Line.{Line}
 use Rattle.redo_store.specs.Tables.{Tables, state_of, tables_count, calls_of}
 use Rattle.redo_history.specs.Histories.{line_text_of}

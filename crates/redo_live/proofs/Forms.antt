@@ -7,7 +7,7 @@ use Rattle.std.proofs.lemmas.Map.Steps.{length-le_from_distinct_below}
 use Rattle.std.proofs.lemmas.Map.Views.{Contains-from_any}
 use Rattle.redo_names.specs.Names.{is_name, AreAllNames}
 use Rattle.redo_names.specs.Inside.Names.{AreNames}
-use Rattle.redo_model.specs.Names.{Text, Ascending, text_at}
+use Rattle.redo_model.specs.Names.{Text, Ascending, text_at, by_text}
 use Rattle.redo_model.specs.Deps as model
 use Rattle.redo_model.specs.Deps.{AreDeps}
 use Rattle.redo_model.specs.Inside.Deps.{named_deps}
@@ -20,7 +20,6 @@ use Rattle.redo_model.specs.Why.{Reason, Building, Failed, Edited, Always, Appea
 use Rattle.redo_model.specs.Inside.Why.{IsReasonBelow, IsWhyBelow, named_reason}
 use Rattle.redo_store.specs.Meaning.{why_of}
 use Rattle.redo_store.specs.declared.why.Why.{Why}
-use Rattle.redo_terms.specs.Meaning.{by_text}
 use Rattle.redo_text.specs.declared.inquiries.Inquiry.{Inquiry}
 use Rattle.redo_live.specs.Answers.{Answer, IsAnswer, Rows, Uses, answer_line, inquiry_of}
 use Rattle.redo_live.specs.Inside.AnswerForms.{AnswersInForm, AreCountedNames, HasAnswerForm, HasReasonForm, HasWhyForm}

@@ -2,7 +2,7 @@
 use Rattle.std.proofs.Common.{◌≡◌, ◌+◌, ◌*◌, ◌^◌, ◌<◌, ◌⊎◌, inl, inr, ℕ, Bool, cond, List, [], ◌∷◌, ◌++◌, refl, sym, ap, ◌∙◌, subst, length}
 use Rattle.std.specs.Ordering.{nat_cmp}
 use Rattle.redo_names.specs.Inside.Names.{AreNames}
-use Rattle.redo_model.specs.Names.{Text, texts, text_at, by_number}
+use Rattle.redo_model.specs.Names.{Text, texts, text_at, by_number, by_text}
 use Rattle.redo_model.specs.State.{State}
 use Rattle.redo_model.specs.Command.{Command}
 use Rattle.redo_model.specs.Step.{Answers, after}
@@ -11,7 +11,7 @@ use Rattle.redo_model.specs.Renaming.{IsBelow, named_command, named_reply}
 use Rattle.redo_model.specs.Inside.Renaming.{named_state, numbering}
 use Rattle.redo_model.proofs.StepsByName.{after_by_name}
 use Rattle.redo_model.proofs.Texts.{texts_are_names}
-use Rattle.redo_terms.specs.Meaning.{command_of, reply_of, line_at, by_text}
+use Rattle.redo_terms.specs.Meaning.{command_of, reply_of, line_at}
 use Rattle.redo_terms.specs.declared.reply.Line.{Line}
 use Rattle.redo_terms.specs.declared.reply.Reply.{Reply}
 use Rattle.redo_text.specs.Grammar.{IsCommandLine, AddsNames}

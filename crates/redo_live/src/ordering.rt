@@ -2,8 +2,8 @@ ghost use Rattle.std.specs.Prelude.{◌≡◌, IfOk};
 ghost use Rattle.std.specs.List.Sorted.{IsPermutation, IsSorted};
 ghost use Rattle.std.specs.Cmp.Lexicographic.{slice_cmp};
 ghost use Rattle.std.specs.Ordering.{nat_cmp};
-ghost use Rattle.redo_model.specs.Names.{text_at};
-ghost use Rattle.redo_terms.specs.Meaning.{by_text, reply_of};
+ghost use Rattle.redo_model.specs.Names.{text_at, by_text};
+ghost use Rattle.redo_terms.specs.Meaning.{reply_of};
 ghost use Rattle.redo_live.specs.Inside.Ordered.{IsSortedReply};
 
 use redo_names::Names;

@@ -1,6 +1,7 @@
 ghost use Rattle.std.specs.Prelude.{◌≡◌, ◌<◌, ◌≤◌, ◌⊎◌, ◌++◌, [], length, if◌then◌else◌, IfOk, IfErr, OnOk, OnErr};
 ghost use Rattle.redo_model.specs.Renaming.{IsLineBelow};
-ghost use Rattle.redo_terms.specs.Meaning.{command_of, reply_of, line_of, line_at, by_text};
+ghost use Rattle.redo_model.specs.Names.{by_text};
+ghost use Rattle.redo_terms.specs.Meaning.{command_of, reply_of, line_of, line_at};
 ghost use Rattle.redo_history.specs.Histories.{line_text_of};
 ghost use Rattle.redo_live.specs.Inside.Ordered.{IsSortedReply};
 ghost use Rattle.redo_live.specs.Inside.Told.{TellsNothing};

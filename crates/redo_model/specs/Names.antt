@@ -30,6 +30,10 @@ texts = record { same = bytes_eq; order = slice_cmp nat_cmp }
 abbrev pub numbers : (ℕ → ℕ → Ordering) → Naming ℕ
 numbers order = record { same = ◌==◌; order = order }
 
+-- numbers ordered as the texts that they stand for
+abbrev pub by_text : List Text → Naming ℕ
+by_text names = numbers (λ m n. texts.order (text_at names m) (text_at names n))
+
 -- numbers by their size
 abbrev pub by_number : Naming ℕ
 by_number = numbers nat_cmp

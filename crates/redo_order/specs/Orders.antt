@@ -3,8 +3,7 @@ use Rattle.std.specs.Prelude.{◌≡◌, ℕ, ◌<◌, ◌==◌, List, Contains,
 use Rattle.std.specs.List.{position_or_len}
 use Rattle.std.specs.Ordering.{nat_cmp}
 use Rattle.std.specs.declared.cmp.Ordering.{Ordering}
-use Rattle.redo_model.specs.Names.{IsListed}
-pub use Rattle.redo_terms.specs.Meaning.{by_text}
+use Rattle.redo_model.specs.Names.{IsListed, by_text}
 
 -- the place of a number in a list
 abbrev pub place : List ℕ → ℕ → ℕ

@@ -1,6 +1,6 @@
 -- What the values of the code mean: over numbers, and over the names that the numbers stand for.
 use Rattle.std.specs.Prelude.{ℕ, List, box_value, option_map}
-use Rattle.redo_model.specs.Names.{Text, Naming, numbers, texts, text_at}
+use Rattle.redo_model.specs.Names.{Text, text_at}
 use Rattle.redo_model.specs.Command as commands
 use Rattle.redo_model.specs.Reply as replies
 use Rattle.redo_model.specs.History as histories
@@ -59,7 +59,3 @@ reply_at names reply = named_reply (text_at names) (reply_of reply)
 
 abbrev pub line_at : List Text → Line → histories.Line Text
 line_at names line = named_line (text_at names) (line_of line)
-
--- numbers ordered as the texts that they stand for
-abbrev pub by_text : List Text → Naming ℕ
-by_text names = numbers (λ m n. texts.order (text_at names m) (text_at names n))

@@ -3,7 +3,7 @@ use Rattle.std.specs.Prelude.{◌≡◌, ℕ, Bool, cond, List, [], ◌∷◌, �
 use Rattle.redo_model.specs.Command.{Command, Unlock, Failed}
 use Rattle.redo_model.specs.History.{Line}
 use Rattle.redo_model.specs.Renaming.{AllBelow}
-use Rattle.redo_terms.specs.Meaning.{by_text}
+use Rattle.redo_model.specs.Names.{by_text}
 use Rattle.redo_store.specs.Tables.{state_of, tables_count}
 use Rattle.redo_model.specs.Inside.Ending.{AreHeld, okay_line, closing_lines_of}
 use Rattle.redo_live.specs.Inside.LiveState.{LiveState}

@@ -2,12 +2,12 @@
 use Rattle.std.specs.Prelude.{◌≡◌, ℕ, ◌+◌, ◌*◌, ◌^◌, ◌≤◌, List, ◌++◌, Some, length, true, ⊤}
 use Rattle.std.specs.List.{flat_map}
 use Rattle.redo_names.specs.Inside.Names.{AreNames}
-use Rattle.redo_model.specs.Names.{Text, texts, text_at, by_number}
+use Rattle.redo_model.specs.Names.{Text, texts, text_at, by_number, by_text}
 use Rattle.redo_model.specs.Command.{Command}
 use Rattle.redo_model.specs.History.{Line}
 use Rattle.redo_model.specs.Renaming.{IsBelow, named_command}
 use Rattle.redo_model.specs.Step.{Answers, after}
-use Rattle.redo_terms.specs.Meaning.{command_of, reply_of, line_at, by_text}
+use Rattle.redo_terms.specs.Meaning.{command_of, reply_of, line_at}
 use Rattle.redo_terms.specs.declared.reply.Line.{Line as LineOfNumbers}
 use Rattle.redo_terms.specs.declared.reply.Reply.{Reply as ReplyOfNumbers}
 use Rattle.redo_text.specs.Questions.{line_fault}

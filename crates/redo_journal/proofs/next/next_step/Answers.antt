@@ -1,6 +1,6 @@
 use Rattle.std.proofs.Common.{map, arith}
 use Rattle.redo_model.proofs.Nexts.{next_is_line}
-use Rattle.redo_terms.specs.Meaning.{by_text}
+use Rattle.redo_model.specs.Names.{by_text}
 use Rattle.redo_terms.specs.Inside.Meaning.{item_of}
 use Rattle.redo_journal.specs.Journals.{lines_told}
 use Rattle.redo_journal.specs.Numbers.{numbered_in}

@@ -1,7 +1,7 @@
 use Rattle.std.proofs.Common.{ℕ, ◌≡◌, ◌+◌, ◌-◌, ◌<◌, drop, filter, map, length, Option, Some, None, ap, ◌∙◌, subst, arith}
 use Rattle.std.specs.Option.{ForSome, IfSome}
 use Rattle.redo_model.specs.Closing.{least}
-use Rattle.redo_terms.specs.Meaning.{by_text}
+use Rattle.redo_model.specs.Names.{by_text}
 use Rattle.redo_terms.specs.Inside.Meaning.{item_of}
 use Rattle.redo_journal.specs.Inside.Holds.{is_held, locked_in, lesser_held}
 use Rattle.redo_journal.proofs.Closings.{least_from}

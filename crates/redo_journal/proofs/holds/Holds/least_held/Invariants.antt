@@ -1,7 +1,7 @@
 use Rattle.std.proofs.Common.{◌≡◌, ◌<◌, ◌≤◌, length, map, drop, filter}
 use Rattle.std.specs.Option.{ForSome}
 use Rattle.redo_model.specs.Closing.{least}
-use Rattle.redo_terms.specs.Meaning.{by_text}
+use Rattle.redo_model.specs.Names.{by_text}
 use Rattle.redo_terms.specs.Inside.Meaning.{item_of}
 use Rattle.redo_journal.specs.Inside.Holds.{is_held, locked_in}
 use Rattle.redo_journal.proofs.holds.Holds.least_held.Given as goal

@@ -1,9 +1,8 @@
 use Rattle.std.proofs.Common.{length, subst}
 use Rattle.redo_model.specs.Deps.{AreDeps}
-use Rattle.redo_model.specs.Names.{by_number}
+use Rattle.redo_model.specs.Names.{by_number, by_text}
 use Rattle.redo_store.specs.Meaning.{deps_of}
 use Rattle.redo_store.specs.Tables.{state_of, tables_records}
-use Rattle.redo_terms.specs.Meaning.{by_text}
 use Rattle.redo_live.specs.Inside.LiveState.{LiveState}
 use Rattle.redo_live.specs.Inside.Ordered.{AreSortedAgain}
 use Rattle.redo_live.specs.Inside.Within.{IsStateWithin}
