@@ -11,7 +11,7 @@ use Rattle.redo_model.specs.Renaming.{IsBelow, IsReplyBelow}
 use Rattle.redo_model.proofs.VerdictsByName.{RefusesBelow, verdict_below}
 use Rattle.redo_terms.specs.Meaning.{reply_of}
 use Rattle.redo_terms.specs.declared.reply.Reply as coded
-use Rattle.redo_order.specs.Orders.{by_place}
+use Rattle.redo_names.specs.Orders.{by_place}
 use Rattle.redo_graph.specs.declared.step.Step.{Step}
 use Rattle.redo_replica.specs.Replicas.{count_of, records_of}
 use Rattle.redo_replica.specs.Replies.{lists_names}

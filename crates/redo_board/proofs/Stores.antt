@@ -6,8 +6,8 @@ use Rattle.redo_model.specs.Command.{Command}
 use Rattle.redo_model.specs.Reply.{Reply}
 use Rattle.redo_model.specs.Step.{Replies, records_after}
 use Rattle.redo_model.specs.Renaming.{IsReplyBelow}
-use Rattle.redo_order.specs.Orders.{by_place}
-use Rattle.redo_order.proofs.Places.{by_place_is}
+use Rattle.redo_names.specs.Orders.{by_place}
+use Rattle.redo_names.proofs.Places.{by_place_is}
 use Rattle.redo_records.specs.Rows.{by_number}
 use Rattle.redo_graph.specs.Graphs.{IsGraphOf}
 use Rattle.redo_replica.specs.Replicas.{ReplicaOf, records_of, count_of}

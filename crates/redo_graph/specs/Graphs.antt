@@ -2,7 +2,7 @@
 use Rattle.std.specs.Prelude.{◌≡◌, ◌↔◌, ◌<◌, ℕ, List, Some, Contains, length, slice_get}
 use Rattle.std.specs.List.{AllZip}
 use Rattle.redo_journal.specs.Plans.{PlanOf}
-use Rattle.redo_order.specs.Orders.{AreSorted, AreRanks}
+use Rattle.redo_names.specs.Orders.{AreSorted, AreRanks}
 use Rattle.redo_graph.specs.declared.step.Step.{Step}
 use Rattle.redo_graph.specs.Pairs.{PairsOf, AreAscending, AreThose}
 use Rattle.redo_graph.specs.Steps.{TablesOf, AllMean, listed_by}

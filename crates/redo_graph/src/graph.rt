@@ -8,7 +8,7 @@ use crate::pairs::Pairs;
 use crate::step::{Listed, Step};
 use crate::tables::Tables;
 use redo_journal::Plan;
-use redo_order::{ranks_of, sorted_numbers};
+use redo_names::{ranks_of, sorted_numbers};
 use std::alloc::{AllocError, Global};
 use std::marker::Model;
 

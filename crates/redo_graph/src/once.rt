@@ -3,7 +3,7 @@ ghost use Rattle.redo_graph.specs.Pairs.{AreAscending, AreThose, IsStart};
 ghost use Rattle.redo_graph.specs.Inside.Pairs.{AreBlocks, AreStarts};
 
 use crate::keys::push_names;
-use redo_order::in_order;
+use redo_names::in_order;
 use std::alloc::{AllocError, Global};
 use std::mem;
 

@@ -8,8 +8,8 @@ use Rattle.std.proofs.lemmas.Option.{slice_get_within}
 use Rattle.std.proofs.Math.ListN.{replicate}
 use Rattle.redo_model.specs.Command.{Command}
 use Rattle.redo_model.proofs.MorePlaces.{same_everywhere}
-use Rattle.redo_order.specs.Inside.Orders.{IsOrderOf}
-use Rattle.redo_order.proofs.Places.{listed_by_place}
+use Rattle.redo_names.specs.Inside.Orders.{IsOrderOf}
+use Rattle.redo_names.proofs.Places.{listed_by_place}
 use Rattle.redo_graph.specs.declared.step.Step.{Step}
 use Rattle.redo_graph.specs.declared.step.Step.TheVariants as steps
 use Rattle.redo_graph.specs.Graphs.{GraphOf, AreNumbers}

@@ -1,6 +1,6 @@
 -- A graph that cells and rows fit has what a reply reads of it.
 use Rattle.std.proofs.Common.{List, length, arith}
-use Rattle.redo_order.proofs.Ranked.{sorted_few}
+use Rattle.redo_names.proofs.Ranked.{sorted_few}
 use Rattle.redo_graph.specs.Graphs.{GraphOf}
 use Rattle.redo_replica.specs.declared.rows.Row.{Row}
 use Rattle.redo_replica.specs.declared.cell.CompactCell.{CompactCell}

@@ -8,9 +8,9 @@ use Rattle.redo_model.specs.Names.{numbers}
 use Rattle.redo_model.specs.OutOfDate.{HasFile, IsStale}
 use Rattle.redo_model.specs.Renaming.{AllBelow}
 use Rattle.redo_model.proofs.Listing.{below_at}
-use Rattle.redo_order.specs.Orders.{by_place}
-use Rattle.redo_order.specs.Inside.Orders.{AreInOrder}
-use Rattle.redo_order.proofs.Listed.{listed_alike}
+use Rattle.redo_names.specs.Orders.{by_place}
+use Rattle.redo_names.specs.Inside.Orders.{AreInOrder}
+use Rattle.redo_names.proofs.Listed.{listed_alike}
 use Rattle.redo_marks.specs.Memo.{IsRight}
 use Rattle.redo_graph.specs.Steps.{TablesOf}
 use Rattle.redo_replica.specs.declared.rows.Row.{Row}

@@ -2,7 +2,7 @@
 use Rattle.std.specs.Prelude.{ℕ, Bool, true, false}
 use Rattle.redo_model.specs.Command.{Command, IfChange, Ood, Targets, Sources}
 use Rattle.redo_model.specs.Names.{Naming, numbers}
-use Rattle.redo_order.specs.Orders.{by_place}
+use Rattle.redo_names.specs.Orders.{by_place}
 use Rattle.redo_graph.specs.Graphs.{GraphOf}
 
 -- names as numbers, in the graph's order

@@ -2,8 +2,8 @@
 
 ghost use Rattle.std.specs.Prelude.{◌≡◌, ◌<◌, ◌↔◌, ◌⊎◌, ◌++◌, ◌∷◌, [], ℕ, List, Contains, IsNone, IsSome, IsTrue, IfOk, OnOk, if◌then◌else◌, is_some, length, slice_index};
 ghost use Rattle.redo_model.specs.OutOfDate.{HasFile, HasRow, IsSource, IsStale, IsTarget, OutOfDate};
-ghost use Rattle.redo_order.specs.Orders.{AreRanks};
-ghost use Rattle.redo_order.specs.Inside.Orders.{AreInOrder, ArePlaces};
+ghost use Rattle.redo_names.specs.Orders.{AreRanks};
+ghost use Rattle.redo_names.specs.Inside.Orders.{AreInOrder, ArePlaces};
 ghost use Rattle.redo_marks.specs.Bits.{IsSet};
 ghost use Rattle.redo_marks.specs.Memo.{IsRight};
 ghost use Rattle.redo_marks.specs.NameSet.{IsMarked, size_of};
@@ -22,7 +22,7 @@ use crate::rows::{PairRows, Row};
 use crate::state::CompactState;
 use redo_graph::Graph;
 use redo_marks::{Bits, NameSet};
-use redo_order::{in_order, names_at};
+use redo_names::{in_order, names_at};
 use std::alloc::{AllocError, Global};
 
 fn push_if(names: &mut Vec<u32>, n: u32, is_due: bool) -> Result<(), AllocError>

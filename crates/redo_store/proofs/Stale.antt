@@ -3,8 +3,8 @@ use Rattle.std.proofs.Common.{◌≡◌, ◌↔◌, ℕ, ◌<◌, ◌+◌, Bool,
 use Rattle.std.specs.List.{AllPairs, Contains}
 use Rattle.redo_model.specs.Names.{IsListed, by_number}
 use Rattle.redo_model.proofs.Listing.{one_more}
-use Rattle.redo_order.proofs.Places.{below_by_numbers}
-use Rattle.redo_order.proofs.Ranked.{pushed_due}
+use Rattle.redo_names.proofs.Places.{below_by_numbers}
+use Rattle.redo_names.proofs.Ranked.{pushed_due}
 
 -- the next of the names is added if it has Q
 pub members_more : (Q : ℕ → Type 0) (names : List ℕ) (k : ℕ) → k < length names

@@ -1,7 +1,7 @@
 -- A graph with the cells of its names and the rows of its pairs.
 use Rattle.std.specs.Prelude.{◌≡◌, ◌↔◌, ◌<◌, ◌^◌, ℕ, List, Contains, length}
-use Rattle.redo_order.specs.Orders.{AreRanks}
-use Rattle.redo_order.specs.Inside.Orders.{IsOrderOf}
+use Rattle.redo_names.specs.Orders.{AreRanks}
+use Rattle.redo_names.specs.Inside.Orders.{IsOrderOf}
 use Rattle.redo_graph.specs.Graphs.{GraphOf, AreNumbers, IsOn, IsOnce}
 use Rattle.redo_graph.specs.Pairs.{AreAscending}
 use Rattle.redo_replica.specs.declared.rows.Row.{Row}

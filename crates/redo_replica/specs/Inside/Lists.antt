@@ -2,8 +2,8 @@
 use Rattle.std.specs.Prelude.{◌≡◌, ◌≢◌, ◌⊎◌, ◌↔◌, ◌<◌, ◌^◌, ℕ, Bool, List, IsNone, IsSome, IsTrue, Contains, is_some, length, map, slice_index_or}
 use Rattle.redo_model.specs.State.{Idle}
 use Rattle.redo_marks.specs.Bits.{IsSet}
-use Rattle.redo_order.specs.Orders.{AreRanks}
-use Rattle.redo_order.specs.Inside.Orders.{IsOrderOf}
+use Rattle.redo_names.specs.Orders.{AreRanks}
+use Rattle.redo_names.specs.Inside.Orders.{IsOrderOf}
 use Rattle.redo_graph.specs.Graphs.{GraphOf, IsOn}
 use Rattle.redo_replica.specs.declared.cell.CompactCell.{CompactCell}
 use Rattle.redo_replica.specs.declared.rows.Row.{Row}

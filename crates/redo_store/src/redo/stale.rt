@@ -6,7 +6,7 @@ ghost use Rattle.redo_store.specs.Tables.{tables_count, tables_records};
 
 use crate::redo::Redo;
 use crate::redo::lists::push_if;
-use redo_order::in_order;
+use redo_names::in_order;
 use std::alloc::{AllocError, Global};
 
 impl Redo {

@@ -2,7 +2,7 @@ use Rattle.std.proofs.Common.{◌<◌, ◌∙◌, ℕ, List, length, map, get_or
 use Rattle.std.specs.List.{All}
 use Rattle.std.proofs.lemmas.Result.{IfOk-weaker}
 use Rattle.redo_model.specs.OutOfDate.{HasFile, OutOfDate}
-use Rattle.redo_order.proofs.Ranked.{all_placed, in_order_by_places, rise_by_number}
+use Rattle.redo_names.proofs.Ranked.{all_placed, in_order_by_places, rise_by_number}
 use Rattle.redo_replica.specs.Replicas.{records_in}
 use Rattle.redo_replica.proofs.NamesOn.{file_below, file_is, in_order_alike}
 use Rattle.redo_replica.proofs.lists.ood.Goals as goal

@@ -6,7 +6,7 @@ use Rattle.redo_model.proofs.Listing.{at_take_all, below_at}
 use Rattle.redo_marks.specs.Bits.{IsSet}
 use Rattle.redo_marks.proofs.Marking.{none_marked}
 use Rattle.redo_marks.specs.NameSet.{IsMarked, size_of}
-use Rattle.redo_order.proofs.Ranked.{PlacesOf, places_none, places_more, same_places}
+use Rattle.redo_names.proofs.Ranked.{PlacesOf, places_none, places_more, same_places}
 use Rattle.redo_replica.specs.Inside.Lists.{HasFileIn}
 use Rattle.redo_replica.proofs.lists.ood_places.Goals as goal
 

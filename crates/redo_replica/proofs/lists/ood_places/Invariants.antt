@@ -1,6 +1,6 @@
 use Rattle.std.proofs.Common.{◌≡◌, length, take}
 use Rattle.redo_marks.specs.Bits.{IsSet}
-use Rattle.redo_order.proofs.Ranked.{PlacesOf}
+use Rattle.redo_names.proofs.Ranked.{PlacesOf}
 use Rattle.redo_replica.specs.Inside.Lists.{HasFileIn}
 use Rattle.redo_replica.proofs.lists.ood_places.Given as goal
 

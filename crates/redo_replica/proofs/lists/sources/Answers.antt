@@ -1,6 +1,6 @@
 use Rattle.std.proofs.Common.{length, arith}
 use Rattle.redo_model.specs.OutOfDate.{IsSource}
-use Rattle.redo_order.proofs.Listed.{number_below, first_more, first_all}
+use Rattle.redo_names.proofs.Listed.{number_below, first_more, first_all}
 use Rattle.redo_replica.specs.Replicas.{records_in}
 use Rattle.redo_replica.proofs.NamesOn.{file_below, file_is, in_order_alike}
 use Rattle.redo_replica.proofs.lists.sources.Goals as goal

@@ -1,6 +1,6 @@
 use Rattle.std.proofs.Common.{ℕ}
 use Rattle.redo_model.specs.OutOfDate.{HasRow}
-use Rattle.redo_order.proofs.Listed.{AreFirst}
+use Rattle.redo_names.proofs.Listed.{AreFirst}
 use Rattle.redo_replica.specs.Replicas.{records_in}
 use Rattle.redo_replica.specs.Inside.Lists.{HasFileIn, IsIdleIn}
 use Rattle.redo_replica.proofs.lists.sources.Given as goal

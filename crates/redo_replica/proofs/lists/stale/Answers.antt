@@ -3,7 +3,7 @@ use Rattle.std.specs.List.{All, Contains}
 use Rattle.std.proofs.lemmas.Result.{IfOk-weaker}
 use Rattle.redo_model.proofs.Listing.{below_in}
 use Rattle.redo_model.specs.OutOfDate.{IsStale}
-use Rattle.redo_order.proofs.Ranked.{all_placed, in_order_by_places}
+use Rattle.redo_names.proofs.Ranked.{all_placed, in_order_by_places}
 use Rattle.redo_replica.specs.Replicas.{records_in}
 use Rattle.redo_replica.specs.Inside.Lists.{names_on}
 use Rattle.redo_replica.proofs.NamesOn.{in_order_alike, names_below, stale_is}

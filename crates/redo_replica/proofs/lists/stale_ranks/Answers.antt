@@ -2,7 +2,7 @@ use Rattle.std.proofs.Common.{◌≡◌, ◌↔◌, ◌∙◌, ◌<◌, ◌++◌
 use Rattle.std.proofs.lemmas.Grind.{common_steps}
 use Rattle.std.specs.List.{Contains}
 use Rattle.redo_model.proofs.Listing.{at_take_all}
-use Rattle.redo_order.proofs.Ranked.{PlacesOf, places_none, places_more, pushed_due}
+use Rattle.redo_names.proofs.Ranked.{PlacesOf, places_none, places_more, pushed_due}
 use Rattle.redo_marks.specs.NameSet.{size_of}
 use Rattle.redo_replica.specs.Inside.Changes.{HavePlaces}
 use Rattle.redo_replica.specs.Inside.Lists.{IsStaleIn, names_on}

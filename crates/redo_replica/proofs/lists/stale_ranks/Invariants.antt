@@ -1,6 +1,6 @@
 use Rattle.std.proofs.Common.{take}
 use Rattle.std.specs.List.{Contains}
-use Rattle.redo_order.specs.Inside.Orders.{ArePlaces}
+use Rattle.redo_names.specs.Inside.Orders.{ArePlaces}
 use Rattle.redo_replica.specs.Inside.Lists.{IsStaleIn, names_on}
 use Rattle.redo_replica.proofs.lists.stale_ranks.Given as goal
 

@@ -1,4 +1,4 @@
-use Rattle.redo_order.proofs.Listed.{AreFirst}
+use Rattle.redo_names.proofs.Listed.{AreFirst}
 use Rattle.redo_replica.specs.Inside.Lists.{HasFileIn, IsTargetIn}
 use Rattle.redo_replica.proofs.lists.targets.Given as goal
 

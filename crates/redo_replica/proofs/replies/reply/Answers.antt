@@ -3,7 +3,7 @@ use Rattle.std.specs.Ordering.{nat_cmp}
 use Rattle.std.proofs.lemmas.Result.{IfOk-weaker}
 use Rattle.redo_model.proofs.VerdictsByName.{RefusesBelow, verdict_below}
 use Rattle.redo_terms.specs.Meaning.{refusal_of, reply_of}
-use Rattle.redo_order.specs.Orders.{by_place}
+use Rattle.redo_names.specs.Orders.{by_place}
 use Rattle.redo_replica.specs.Replicas.{records_in}
 use Rattle.redo_replica.specs.Replies.{naming_in}
 use Rattle.redo_replica.proofs.Listed.{ready}

@@ -3,7 +3,7 @@ use Rattle.std.specs.List.{Contains}
 use Rattle.redo_model.specs.OutOfDate.{IsStale}
 use Rattle.redo_model.specs.Reply.{Reply}
 use Rattle.redo_model.specs.Renaming.{IsReplyBelow}
-use Rattle.redo_order.specs.Inside.Orders.{AreInOrder}
+use Rattle.redo_names.specs.Inside.Orders.{AreInOrder}
 use Rattle.redo_marks.specs.Memo.{IsRight}
 use Rattle.redo_replica.specs.Replicas.{records_in}
 use Rattle.redo_replica.specs.Inside.Changes.{HavePlaces}

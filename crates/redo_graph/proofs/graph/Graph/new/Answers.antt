@@ -4,8 +4,8 @@ use Rattle.std.proofs.lemmas.Option.{slice_get_within, get_or_from_slice_get}
 use Rattle.redo_model.specs.Command.{Item}
 use Rattle.redo_model.specs.Names.{Text}
 use Rattle.redo_model.specs.Renaming.{AllBelow}
-use Rattle.redo_order.specs.Orders.{AreSorted, AreRanks}
-use Rattle.redo_order.proofs.Sorting.{sorted_below}
+use Rattle.redo_names.specs.Orders.{AreSorted, AreRanks}
+use Rattle.redo_names.proofs.Sorting.{sorted_below}
 use Rattle.redo_journal.specs.Plans.{scripts_of}
 use Rattle.redo_graph.specs.declared.step.Step.{Step}
 use Rattle.redo_graph.specs.Graphs.{IsOn}

@@ -6,7 +6,7 @@ use Rattle.redo_model.specs.Names.{by_number}
 use Rattle.redo_records.specs.Rows.{Slot, rows_count, rows_of}
 use Rattle.redo_records.proofs.Walked.{slot_names, slot_name_at, names_ascend, row_of_slot, name_of_row, slotted_change}
 use Rattle.redo_store.specs.Tables.{Tables, tables_records, tables_count}
-use Rattle.redo_order.proofs.Listed.{listed_next, listed_at_end, listed_below}
+use Rattle.redo_names.proofs.Listed.{listed_next, listed_at_end, listed_below}
 use Rattle.redo_store.proofs.redo.Redo.change_names.Goals as goal
 
 pub loop-slot-preserved : goal.loop-slot-preserved

@@ -4,7 +4,7 @@ use Rattle.std.specs.List.{Contains}
 use Rattle.redo_model.specs.Names.{Ascending, IsListed, by_number}
 use Rattle.redo_model.specs.OutOfDate.{HasFile, OutOfDate}
 use Rattle.redo_model.proofs.Listing.{at_take_all}
-use Rattle.redo_order.proofs.Listed.{listed_alike, listed_below, listed_next}
+use Rattle.redo_names.proofs.Listed.{listed_alike, listed_below, listed_next}
 use Rattle.redo_store.specs.Tables.{tables_count, tables_records}
 use Rattle.redo_store.proofs.Unknown.{file_below}
 use Rattle.redo_store.proofs.redo.Redo.ood.Goals as goal

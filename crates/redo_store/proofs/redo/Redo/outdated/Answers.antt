@@ -4,7 +4,7 @@ use Rattle.redo_model.specs.OutOfDate.{OutOfDate}
 use Rattle.redo_marks.specs.Memo.{IsRight, is_out}
 use Rattle.redo_model.specs.Names.{by_number}
 use Rattle.redo_store.specs.Tables.{Tables, tables_records}
-use Rattle.redo_order.proofs.Listed.{listed_alike}
+use Rattle.redo_names.proofs.Listed.{listed_alike}
 use Rattle.redo_store.proofs.redo.Redo.outdated.Goals as goal
 
 pub returns-clause-listed : goal.returns-clause-listed

@@ -2,7 +2,7 @@ use Rattle.std.proofs.Common.{arith}
 use Rattle.redo_model.specs.Names.{by_number}
 use Rattle.redo_model.specs.OutOfDate.{IsSource}
 use Rattle.redo_model.proofs.Listing.{listed_all, listed_more}
-use Rattle.redo_order.proofs.Listed.{listed_below}
+use Rattle.redo_names.proofs.Listed.{listed_below}
 use Rattle.redo_store.specs.Tables.{tables_count, tables_records}
 use Rattle.redo_store.proofs.Unknown.{file_below}
 use Rattle.redo_store.proofs.redo.Redo.sources.Goals as goal

@@ -2,7 +2,7 @@ use Rattle.std.specs.List.{Contains}
 use Rattle.redo_model.specs.Names.{by_number}
 use Rattle.redo_model.specs.OutOfDate.{IsStale}
 use Rattle.redo_model.proofs.Listing.{below_in}
-use Rattle.redo_order.proofs.Listed.{listed_below}
+use Rattle.redo_names.proofs.Listed.{listed_below}
 use Rattle.redo_store.specs.Tables.{tables_count, tables_records}
 use Rattle.redo_store.proofs.Stale.{listed_once}
 use Rattle.redo_store.proofs.redo.Redo.stale.Goals as goal

@@ -9,8 +9,8 @@ use Rattle.std.proofs.lemmas.List.Quantifiers.{all_pairs_push}
 use Rattle.redo_model.specs.Names.{Naming, IsListed, Ascending, numbers}
 use Rattle.redo_model.specs.Renaming.{AllBelow}
 use Rattle.redo_model.proofs.Listing.{each_below}
-use Rattle.redo_order.specs.Orders.{by_place}
-use Rattle.redo_order.specs.Inside.Orders.{IsOrderOf, AreInOrder}
+use Rattle.redo_names.specs.Orders.{by_place}
+use Rattle.redo_names.specs.Inside.Orders.{IsOrderOf, AreInOrder}
 
 -- a number of the list is below the count
 pub number_below : {sorted items : List ℕ} {count : ℕ} (k d : ℕ) → IsOrderOf count sorted

@@ -12,8 +12,8 @@ use Rattle.std.proofs.lemmas.List.Elements.{Contains-get_or}
 use Rattle.std.proofs.lemmas.List.Sums.{position_or_len_is}
 use Rattle.redo_model.specs.Names.{text_at}
 use Rattle.redo_model.proofs.Texts.{texts_are_names}
-use Rattle.redo_order.specs.Orders.{AreSorted, place, by_place}
-use Rattle.redo_order.specs.Inside.Orders.{IsOrderOf}
+use Rattle.redo_names.specs.Orders.{AreSorted, place, by_place}
+use Rattle.redo_names.specs.Inside.Orders.{IsOrderOf}
 
 pub below_by_numbers : (m n : ℕ) → m < n → nat_cmp m n ≡ Less
 below_by_numbers m n h = grind (arith, nat_tests)

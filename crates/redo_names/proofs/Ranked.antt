@@ -17,9 +17,9 @@ use Rattle.std.proofs.lemmas.Map.Steps.{length-le_from_distinct_below}
 use Rattle.std.proofs.lemmas.Map.Views.{Contains-from_any}
 use Rattle.redo_model.specs.Names.{Ascending, by_number, numbers}
 use Rattle.redo_model.proofs.Listing.{each_below, one_more}
-use Rattle.redo_order.specs.Orders.{by_place, place}
-use Rattle.redo_order.specs.Inside.Orders.{IsOrderOf, AreInOrder, ArePlaces}
-use Rattle.redo_order.proofs.Sorting.{AllPairs-map}
+use Rattle.redo_names.specs.Orders.{by_place, place}
+use Rattle.redo_names.specs.Inside.Orders.{IsOrderOf, AreInOrder, ArePlaces}
+use Rattle.redo_names.proofs.Sorting.{AllPairs-map}
 
 -- the first k numbers of the list have their ranks
 abbrev pub HaveRanks : List ℕ → List ℕ → List ℕ → ℕ → Type 0

@@ -1,6 +1,6 @@
 use Rattle.std.proofs.Common.{◌≡◌, length, take}
-use Rattle.redo_order.proofs.Ranked.{HaveRanks}
-use Rattle.redo_order.proofs.sorted.ranks_of.Given as goal
+use Rattle.redo_names.proofs.Ranked.{HaveRanks}
+use Rattle.redo_names.proofs.sorted.ranks_of.Given as goal
 
 abbrev pub invariant-loop-k : goal.invariant-loop-k
 invariant-loop-k l = record {

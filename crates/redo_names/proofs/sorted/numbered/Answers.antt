@@ -1,7 +1,7 @@
 use Rattle.std.proofs.Common.{◌≡◌, ℕ, length, refl, subst, arith}
-use Rattle.redo_order.specs.Inside.Numbered.{AreNumbered}
-use Rattle.redo_order.proofs.Sorting.{AreNumbered-none, AreNumbered-push}
-use Rattle.redo_order.proofs.sorted.numbered.Goals as goal
+use Rattle.redo_names.specs.Inside.Numbered.{AreNumbered}
+use Rattle.redo_names.proofs.Sorting.{AreNumbered-none, AreNumbered-push}
+use Rattle.redo_names.proofs.sorted.numbered.Goals as goal
 
 pub loop-n-init : goal.loop-n-init
 loop-n-init c = rw c.new-pairs.ensures.items (AreNumbered-none c.args.names.now)

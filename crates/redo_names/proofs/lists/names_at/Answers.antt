@@ -1,5 +1,5 @@
-use Rattle.redo_order.proofs.Ranked.{named_more}
-use Rattle.redo_order.proofs.lists.names_at.Goals as goal
+use Rattle.redo_names.proofs.Ranked.{named_more}
+use Rattle.redo_names.proofs.lists.names_at.Goals as goal
 
 pub loop-k-preserved : goal.loop-k-preserved
 loop-k-preserved c =

@@ -1,5 +1,5 @@
-use Rattle.redo_order.proofs.Ranked.{rise_once, same_once}
-use Rattle.redo_order.proofs.lists.in_order.Goals as goal
+use Rattle.redo_names.proofs.Ranked.{rise_once, same_once}
+use Rattle.redo_names.proofs.lists.in_order.Goals as goal
 
 pub returns-clause-rising : goal.returns-clause-rising
 returns-clause-rising c =

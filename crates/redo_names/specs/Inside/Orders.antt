@@ -2,7 +2,7 @@
 use Rattle.std.specs.Prelude.{◌≡◌, ◌<◌, ℕ, List, length, slice_index}
 use Rattle.redo_model.specs.Names.{IsListed, numbers}
 use Rattle.redo_model.specs.Renaming.{AllBelow}
-use Rattle.redo_order.specs.Orders.{by_place}
+use Rattle.redo_names.specs.Orders.{by_place}
 
 -- the list has each number below the count, once
 abbrev pub IsOrderOf : ℕ → List ℕ → Type 0

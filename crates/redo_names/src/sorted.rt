@@ -2,11 +2,11 @@
 
 ghost use Rattle.std.specs.Prelude.{◌≡◌, ◌<◌, ◌^◌, length, map, IfOk};
 ghost use Rattle.redo_model.specs.Renaming.{AllBelow};
-ghost use Rattle.redo_order.specs.Orders.{AreSorted, AreRanks};
+ghost use Rattle.redo_names.specs.Orders.{AreSorted, AreRanks};
 ghost use Rattle.redo_names.specs.Inside.Names.{AreNames};
-ghost use Rattle.redo_order.specs.Inside.Numbered.{AreNumbered};
+ghost use Rattle.redo_names.specs.Inside.Numbered.{AreNumbered};
 
-use redo_names::Names;
+use crate::Names;
 use std::alloc::{AllocError, Global};
 
 /// Each number with its name.

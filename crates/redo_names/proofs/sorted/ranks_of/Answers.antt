@@ -1,8 +1,8 @@
 use Rattle.std.proofs.Common.{◌<◌, ◌∙◌, length, get_or, arith}
 use Rattle.std.proofs.lemmas.List.{length-set}
 use Rattle.redo_model.proofs.Listing.{below_at}
-use Rattle.redo_order.proofs.Ranked.{ranked_more}
-use Rattle.redo_order.proofs.sorted.ranks_of.Goals as goal
+use Rattle.redo_names.proofs.Ranked.{ranked_more}
+use Rattle.redo_names.proofs.sorted.ranks_of.Goals as goal
 
 pub loop-k-preserved : goal.loop-k-preserved
 loop-k-preserved c =

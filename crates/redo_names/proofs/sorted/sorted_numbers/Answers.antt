@@ -1,8 +1,8 @@
 use Rattle.std.proofs.Common.{sym, ap, ◌∙◌, subst}
 use Rattle.std.proofs.lemmas.Result.{IfOk-weaker}
-use Rattle.redo_order.specs.Orders.{AreSorted}
-use Rattle.redo_order.proofs.Sorting.{numbers_in, AreSorted-from_pairs}
-use Rattle.redo_order.proofs.sorted.sorted_numbers.Goals as goal
+use Rattle.redo_names.specs.Orders.{AreSorted}
+use Rattle.redo_names.proofs.Sorting.{numbers_in, AreSorted-from_pairs}
+use Rattle.redo_names.proofs.sorted.sorted_numbers.Goals as goal
 
 pub returns : goal.returns
 returns c =

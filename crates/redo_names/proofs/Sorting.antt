@@ -20,8 +20,8 @@ use Rattle.redo_model.specs.Renaming.{AllBelow}
 use Rattle.redo_model.proofs.Listing.{each_below as all_from}
 use Rattle.redo_model.specs.Names.{text_at}
 use Rattle.redo_names.specs.Inside.Names.{AreNames}
-use Rattle.redo_order.specs.Inside.Numbered.{AreNumbered}
-use Rattle.redo_order.specs.Orders.{AreSorted}
+use Rattle.redo_names.specs.Inside.Numbered.{AreNumbered}
+use Rattle.redo_names.specs.Orders.{AreSorted}
 
 pub AreNumbered-none : (names : List (List ℕ)) → AreNumbered names 0 []
 AreNumbered-none names = record {
