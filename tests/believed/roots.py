@@ -12,7 +12,7 @@ ROOTS: list[Root] = [
     ("redo_talk", "serve"),
     ("redo_words", "job"),
     ("redo_words", "conversation"),
-    ("redo_job", "finish"),
+    ("redo_words", "finish"),
 ]
 # what a run says besides, of which the texts can't tell: the page's last part has what this rests
 # on and they don't

@@ -77,7 +77,7 @@ WRONG_PAGES: list[Case] = [
     (
         "a root that isn't named",
         page("`finish` of", "`end` of"),
-        "docs/BELIEVE.md: the page doesn't name finish of redo_job",
+        "docs/BELIEVE.md: the page doesn't name finish of redo_words",
     ),
     (
         "a file that was renamed",

@@ -3,12 +3,11 @@
 
 ghost use Rattle.std.specs.Prelude.{◌≡◌, ◌⊎◌, ℕ, ◌<◌, length, IfOk, IfErr};
 
-use redo_job::finish;
 use redo_replay::{Verdict, replay_text};
 use redo_session::run_texts;
 use redo_text::Fault;
 use redo_whole::Watched;
-use redo_words::{Job, WordsFault, job};
+use redo_words::{Job, WordsFault, finish, job};
 use std::process::ExitCode;
 use std::rt::{Env, Files};
 use std::sync::Wait;

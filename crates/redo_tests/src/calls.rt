@@ -2,10 +2,10 @@
 //! the line of a fault.
 use crate::devices::{DeviceFault, FaultyReader, FaultyWriter};
 use crate::failing::{ALL, NEVER, writer};
-use redo_job::finish;
 use redo_session::run_texts;
 use redo_text::Fault;
 use redo_whole::{Watched, WholeFault, read_whole, write_whole};
+use redo_words::finish;
 use std::alloc::{AllocError, Global};
 use std::io;
 use std::io::{Error, ErrorKind, Read, Write};

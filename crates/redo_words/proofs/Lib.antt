@@ -1,3 +1,4 @@
 mod FilesAsked
 mod LogAsked
 mod Matched
+mod Told

@@ -1,3 +1,4 @@
-pub mod Words
-pub mod LiveWords
 pub mod Inside
+pub mod Lines
+pub mod LiveWords
+pub mod Words

@@ -2,7 +2,7 @@ ghost use Rattle.std.specs.Prelude.{◌≡◌, IfErr, IfSome, OnOk, OnErr, IsTru
 ghost use Rattle.std.specs.List.{flat_map};
 ghost use Rattle.redo_whole.specs.Watched.{has_failed};
 ghost use Rattle.redo_whole.specs.Devices.{Writes, WritesNothing};
-ghost use Rattle.redo_job.specs.Lines.{file_name, fault_line, said, said_of, in_line, status_of};
+ghost use Rattle.redo_words.specs.Lines.{file_name, fault_line, said, said_of, in_line, status_of};
 
 use arrayvec::ArrayVec;
 use itoa::Buffer;

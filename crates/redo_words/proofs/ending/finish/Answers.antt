@@ -1,5 +1,5 @@
-use Rattle.redo_job.proofs.Told.{by_flag}
-use Rattle.redo_job.proofs.ending.finish.Goals as goal
+use Rattle.redo_words.proofs.Told.{by_flag}
+use Rattle.redo_words.proofs.ending.finish.Goals as goal
 
 pub returns-in-Err-clause-line : goal.returns-in-Err-clause-line
 returns-in-Err-clause-line g c =

@@ -2,7 +2,7 @@ use Rattle.std.proofs.Common.{◌≡◌, take}
 use Rattle.std.specs.List.{flat_map}
 use Rattle.redo_whole.specs.Watched.{failures_of}
 use Rattle.redo_whole.specs.Devices.{Writes}
-use Rattle.redo_job.proofs.ending.write_pieces.Given as goal
+use Rattle.redo_words.proofs.ending.write_pieces.Given as goal
 
 abbrev pub invariant-loop-piece : goal.invariant-loop-piece
 invariant-loop-piece g l = record {
