@@ -4,7 +4,7 @@ use Rattle.std.specs.List.{AllByRecursion, flat_map}
 use Rattle.redo_model.specs.Names.{Text}
 use Rattle.redo_model.specs.Command.{Command, Item, commands_in, names_in}
 use Rattle.redo_text.specs.Grammar.{IsScript}
-use Rattle.redo_run_text.specs.Files.{AreAccepted}
+use Rattle.redo_session.specs.Files.{AreAccepted}
 use Rattle.redo_history.specs.Inside.HistoryTexts.{IsSaid}
 use Rattle.redo_history.proofs.CommandsSaid.{commands_said}
 use Rattle.redo_history.proofs.KnownNames.{IsKnown, AreKnown, known-with_names, added_are_known}

@@ -5,10 +5,10 @@ use Rattle.std.proofs.lemmas.Bool.{both_ways}
 use Rattle.redo_model.specs.Names.{Text}
 use Rattle.redo_text.specs.declared.fault.Fault.{Fault}
 use Rattle.redo_text.specs.declared.fault.Fault.TheVariants.{Read, Write}
-use Rattle.redo_run_text.specs.Files.{failed_at}
+use Rattle.redo_session.specs.Files.{failed_at}
 use Rattle.redo_text.specs.Faults.{IsDeviceFault}
 use Rattle.redo_whole.proofs.Counts.{none_failed}
-use Rattle.redo_run_text.specs.Faults.{IsRunCause}
+use Rattle.redo_session.specs.Faults.{IsRunCause}
 
 -- counts that stay the same show no failure
 pub no_file_failed : (before after : List ℕ) → after ≡ before

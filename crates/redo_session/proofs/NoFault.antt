@@ -11,8 +11,8 @@ use Rattle.redo_text.proofs.ScriptSteps.{no_first_fault}
 use Rattle.redo_text.specs.declared.fault.Fault.{Fault}
 use Rattle.redo_text.specs.declared.fault.Fault.TheVariants.{Memory, Read, TooLong, Line, NoSession, TooManySessions, Write}
 use Rattle.redo_session.specs.Runs.{AreKnownSessions}
-use Rattle.redo_run_text.specs.Files.{AreAccepted}
-use Rattle.redo_run_text.specs.Faults.{IsRunCause}
+use Rattle.redo_session.specs.Files.{AreAccepted}
+use Rattle.redo_session.specs.Faults.{IsRunCause}
 
 -- a script leaves one list of names
 one_after : (names : List Text) (text : Text) (a b : List (Item Text)) (m n : List Text)

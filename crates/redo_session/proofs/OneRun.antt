@@ -13,12 +13,12 @@ use Rattle.redo_model.specs.History.{Line, left_by, Legal, LegalFrom}
 use Rattle.redo_model.proofs.Texts.{texts_are_names}
 use Rattle.redo_model.proofs.Unique.{one_answer}
 use Rattle.redo_text.specs.Grammar.{IsScript}
-use Rattle.redo_run_text.specs.RunTexts.{run_text_of, sessions_below}
+use Rattle.redo_session.specs.RunTexts.{run_text_of, sessions_below}
 use Rattle.redo_text.proofs.ScriptLaws.{one_script}
 use Rattle.redo_session.specs.Runs.{IsRun, RunsAs}
-use Rattle.redo_run_text.specs.Files.{AreAccepted}
+use Rattle.redo_session.specs.Files.{AreAccepted}
 use Rattle.redo_session.proofs.Closings.{prefix_of, back_of}
-use Rattle.redo_run_text.proofs.Parts.{whole_part}
+use Rattle.redo_session.proofs.Parts.{whole_part}
 
 -- below 1 there is session 0 alone
 pub alone : {N : Type 0} (lines : List (Line N)) → AllByRecursion (λ line. line.session < 1) lines

@@ -40,7 +40,7 @@ use Rattle.redo_history.proofs.RecordedLines.{all_map}
 use Rattle.redo_session.specs.Runs.{IsRun}
 use Rattle.redo_session.specs.Outcomes.{AreWhole, SeenStands}
 use Rattle.redo_journal.specs.Plans.{scripts_named}
-use Rattle.redo_run_text.proofs.Lists.{all-unmapped, all-weaker}
+use Rattle.redo_session.proofs.Lists.{all-unmapped, all-weaker}
 use Rattle.redo_session.proofs.Wholes.{of_session, no_lines}
 use Rattle.redo_session.proofs.Served.{Serves, whole_at}
 

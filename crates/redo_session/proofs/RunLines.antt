@@ -20,7 +20,7 @@ use Rattle.redo_session.proofs.Asked.{IsAsked, AreAsked, asked_at}
 use Rattle.redo_session.proofs.ByPart.{all_by_part, length_by_part}
 use Rattle.redo_session.proofs.Closings.{closings_accepted, closings_few, of_session, back_of}
 use Rattle.redo_history.proofs.KnownNames.{IsKnown, member_of_all}
-use Rattle.redo_run_text.proofs.Lists.{all-unmapped}
+use Rattle.redo_session.proofs.Lists.{all-unmapped}
 
 abbrev command_in : Line Text → Command Text
 command_in line = line.command

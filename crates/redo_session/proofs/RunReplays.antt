@@ -6,13 +6,13 @@ use Rattle.redo_model.specs.Command.{Item, names_in}
 use Rattle.redo_model.specs.History.{Line, part_of, Legal}
 use Rattle.redo_text.specs.Grammar.{with_names, AddsNames}
 use Rattle.redo_history.specs.Histories.{history_text_of}
-use Rattle.redo_run_text.specs.RunTexts.{session_text_of, sessions_below}
+use Rattle.redo_session.specs.RunTexts.{session_text_of, sessions_below}
 use Rattle.redo_history.proofs.HistoryReadsBack.{legal_history_reads_back}
 use Rattle.redo_history.proofs.RecordedLines.{all_map}
 use Rattle.redo_history.specs.HistoryTexts.{IsHistory}
 use Rattle.redo_history.specs.Inside.HistoryTexts.{IsLineSaid}
 use Rattle.redo_session.specs.Runs.{IsRun, RunsAs}
-use Rattle.redo_run_text.proofs.Accepted.{AreAccepted-length}
+use Rattle.redo_session.proofs.Accepted.{AreAccepted-length}
 use Rattle.redo_session.proofs.Asked.{IsAsked, AreAsked, all_asked, few_names, all_names_known}
 use Rattle.redo_history.proofs.DistinctNames.{few_known}
 use Rattle.redo_session.proofs.RunLines.{lines_asked, few_lines}

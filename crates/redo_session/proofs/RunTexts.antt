@@ -10,7 +10,7 @@ use Rattle.redo_model.specs.Command as model
 use Rattle.redo_model.specs.History.{Line}
 use Rattle.redo_model.specs.Renaming.{named_item}
 use Rattle.redo_terms.specs.declared.script.Item.{Item}
-use Rattle.redo_run_text.specs.RunTexts.{run_text_of, sessions_below}
+use Rattle.redo_session.specs.RunTexts.{run_text_of, sessions_below}
 use Rattle.redo_terms.specs.Meaning.{line_at}
 use Rattle.redo_terms.specs.Inside.Meaning.{item_at, item_of}
 use Rattle.redo_terms.specs.declared.reply.Line as coded
@@ -18,9 +18,9 @@ use Rattle.redo_journal.specs.Plans.{PlanOf, scripts_of}
 use Rattle.redo_text.specs.declared.fault.Fault.{Fault}
 use Rattle.redo_text.specs.declared.fault.Fault.TheVariants.{NoSession}
 use Rattle.redo_session.specs.Runs.{IsRun, IsRunText, RunsAs}
-use Rattle.redo_run_text.specs.Files.{AreAccepted}
-use Rattle.redo_run_text.proofs.Accepted.{AreAccepted-length}
-use Rattle.redo_run_text.specs.Inside.Files.{scripts_at}
+use Rattle.redo_session.specs.Files.{AreAccepted}
+use Rattle.redo_session.proofs.Accepted.{AreAccepted-length}
+use Rattle.redo_session.specs.Inside.Files.{scripts_at}
 use Rattle.redo_journal.specs.Plans.{scripts_named}
 
 -- the plan of these scripts, over these names

@@ -1,1 +1,5 @@
+pub mod Faults
+pub mod Files
+pub mod Lines
+pub mod Printed
 pub mod Sessions

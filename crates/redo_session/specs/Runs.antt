@@ -7,8 +7,8 @@ use Rattle.redo_model.specs.Command.{Item}
 use Rattle.redo_model.specs.State.{empty, is_building, target_state}
 use Rattle.redo_model.specs.History.{Line, part_of, left_by, Legal}
 use Rattle.redo_model.specs.Scripts.{Does}
-use Rattle.redo_run_text.specs.Files.{AreSessions}
-use Rattle.redo_run_text.specs.RunTexts.{run_text_of, sessions_below}
+use Rattle.redo_session.specs.Files.{AreSessions}
+use Rattle.redo_session.specs.RunTexts.{run_text_of, sessions_below}
 
 -- one history in which each session does all that its script says, each reply the database's at its
 -- point: the commands of its lines once and in order, of guarded ones those that the replies let

@@ -6,11 +6,11 @@ ghost use Rattle.redo_session.specs.Runs.{IsRun, LeavesNothingHeld};
 ghost use Rattle.redo_session.specs.Outcomes.{AreWhole, SeenStands};
 ghost use Rattle.redo_journal.specs.Plans.{scripts_named};
 
+use crate::outcome::Outcome;
 use crate::sessions::{Sessions, run_all};
 use redo_board::{Board, Gate};
 use redo_journal::Plan;
 use redo_merge::merge;
-use redo_run_text::Outcome;
 use std::alloc::{AllocError, Global};
 use std::sync::Wait;
 use std::thread::Threads;

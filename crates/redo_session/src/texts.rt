@@ -2,17 +2,18 @@ ghost use Rattle.std.specs.Prelude.{◌≡◌, ◌≢◌, ◌↔◌, ◌⊎◌, 
 ghost use Rattle.redo_whole.specs.Watched.{has_failed};
 ghost use Rattle.redo_whole.specs.Devices.{known_in, WritesNothing};
 ghost use Rattle.redo_session.specs.Runs.{IsRunText, RunsAs, WritesRun, WritesPart, AreKnownSessions};
-ghost use Rattle.redo_run_text.specs.Files.{bytes_of_files, failures_of_files, failed_files};
-ghost use Rattle.redo_run_text.specs.Inside.Files.{scripts_at, AreScriptsBelow};
+ghost use Rattle.redo_session.specs.Files.{bytes_of_files, failures_of_files, failed_files};
+ghost use Rattle.redo_session.specs.Inside.Files.{scripts_at, AreScriptsBelow};
 ghost use Rattle.redo_text.specs.Faults.{IsDeviceFault};
-ghost use Rattle.redo_run_text.specs.Faults.{IsRunCause};
+ghost use Rattle.redo_session.specs.Faults.{IsRunCause};
 ghost use Rattle.redo_journal.specs.Plans.{scripts_named};
 
+use crate::files::read_files;
+use crate::printed::run_text;
 use crate::runs::run;
 use redo_board::Open;
 use redo_journal::{Plan, PlanFault};
 use redo_names::Names;
-use redo_run_text::{read_files, run_text};
 use redo_terms::Script;
 use redo_text::Fault;
 use redo_whole::{Watched, WriteFault, write_whole};

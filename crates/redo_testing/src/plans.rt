@@ -1,6 +1,6 @@
 use redo_journal::Plan;
 use redo_names::Names;
-use redo_run_text::read_files;
+use redo_session::read_files;
 use redo_text::Fault;
 use redo_whole::Watched;
 use std::alloc::{AllocError, Global};

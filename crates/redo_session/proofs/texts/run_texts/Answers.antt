@@ -4,7 +4,7 @@ use Rattle.redo_model.specs.Names.{Text}
 use Rattle.redo_whole.specs.Watched.{failures_of, has_failed}
 use Rattle.redo_whole.proofs.Counts.{same_count}
 use Rattle.redo_session.specs.Runs.{RunsAs}
-use Rattle.redo_run_text.specs.Files.{bytes_of_files, failures_of_files, failed_files}
+use Rattle.redo_session.specs.Files.{bytes_of_files, failures_of_files, failed_files}
 use Rattle.redo_session.proofs.NoFault.{refused_only}
 use Rattle.redo_session.proofs.Devices.{device_read, no_file_failed}
 use Rattle.redo_session.proofs.texts.run_texts.Goals as goal

@@ -2,9 +2,9 @@ use Rattle.std.proofs.Common.{◌≡◌, ◌∙◌, [], length, map, sym, ap}
 use Rattle.std.proofs.lemmas.List.{length-map, nil_from_length}
 use Rattle.redo_terms.specs.Inside.Meaning.{item_at}
 use Rattle.redo_whole.specs.Watched.{inner_of}
-use Rattle.redo_run_text.specs.Files.{bytes_of_files, failed_files}
-use Rattle.redo_run_text.specs.Inside.Files.{scripts_at}
-use Rattle.redo_run_text.proofs.Accepted.{IsRunCause-sessions, AreAccepted-length}
+use Rattle.redo_session.specs.Files.{bytes_of_files, failed_files}
+use Rattle.redo_session.specs.Inside.Files.{scripts_at}
+use Rattle.redo_session.proofs.Accepted.{IsRunCause-sessions, AreAccepted-length}
 use Rattle.redo_session.proofs.RunTexts.{runs_as}
 use Rattle.redo_session.proofs.texts.text_of_files.Goals as goal
 

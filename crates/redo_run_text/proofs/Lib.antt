@@ -1,9 +1,0 @@
-pub mod Accepted
-pub mod Causes
-pub mod Chunks
-pub mod Lists
-pub mod PartTexts
-pub mod Parts
-pub mod ScriptTexts
-pub mod SessionParts
-pub mod Spans
