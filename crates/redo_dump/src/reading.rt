@@ -13,12 +13,10 @@ ghost use Rattle.redo_dump.specs.Inside.Read.{IsKnown, joined};
 
 use hex::FromHex;
 use redo_history::{cut_at_space, session_of};
+use redo_live::MOST_SESSIONS;
 use redo_records::{Cell, State};
 use redo_terms::FileStamp;
 use redo_text::read_number;
-
-/// How many sessions there are at most.
-const MOST_SESSIONS: u16 = 65_535;
 
 /// What is known of a name but its rows.
 #[derive(Drop)]

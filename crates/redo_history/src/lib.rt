@@ -18,5 +18,4 @@ pub use laws::{
 pub use logs::{cut_lines, one_cut};
 pub use printed::{put_answer, put_header, put_line, put_number, put_session};
 pub use read::{read_header, read_line, session_of};
-pub use redo_journal::MOST_SESSIONS;
 pub use verdict::Verdict;

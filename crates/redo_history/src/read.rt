@@ -10,9 +10,8 @@ ghost use Rattle.redo_history.specs.Inside.HistoryFaults.{IsLineCause};
 
 use crate::cuts::{cut_at, cut_at_arrow, cut_at_space};
 use crate::fault::HistoryFault;
-use redo_journal::MOST_SESSIONS;
 use redo_names::{MOST_NAMES, Names};
-use redo_terms::Line;
+use redo_terms::{Line, MOST_SESSIONS};
 use redo_text::{LineFault, ReadFault, ReplyFault, read_command, read_number, read_reply};
 use std::alloc::Global;
 

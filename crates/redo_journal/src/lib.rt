@@ -10,4 +10,4 @@ mod plan;
 pub use entry::{Closing, CommandDone, Entry, Journal, Place};
 pub use holds::{Hold, Holds};
 pub use next::{Next, next_line, next_step};
-pub use plan::{MOST_SESSIONS, Plan, PlanFault};
+pub use plan::{Plan, PlanFault};

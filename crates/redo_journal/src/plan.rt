@@ -3,12 +3,9 @@ ghost use Rattle.std.specs.List.{AllByRecursion};
 ghost use Rattle.redo_journal.specs.Plans.{AreBelow, IsPlan, scripts_of};
 
 use redo_names::Names;
-use redo_terms::Script;
+use redo_terms::{MOST_SESSIONS, Script};
 use std::marker::Model;
 use thiserror::Error;
-
-/// How many sessions there are at most.
-pub const MOST_SESSIONS: usize = 64;
 
 /// Why scripts are no plan.
 #[derive(Clone, Copy, Debug, PartialEq, Eq, Error)]

@@ -11,4 +11,4 @@ mod told;
 
 pub use fault::{Unanswered, Withheld};
 pub use laws::{ended_leave_nothing, one_answer_a_line};
-pub use live::Live;
+pub use live::{Live, MOST_SESSIONS};

@@ -29,6 +29,9 @@ mod replaying;
 /// How many numbers there are for names at first.
 const FIRST_NUMBERS: u32 = 64;
 
+/// How many sessions a conversation has at most.
+pub const MOST_SESSIONS: u16 = 65_535;
+
 /// How many names a conversation has at most.
 const MOST_NAMES: u32 = 16_777_216;
 

@@ -11,7 +11,7 @@ ghost use Rattle.redo_log.specs.Inside.Steps.{AsksFor, BeginsAfter, DoesNext, No
 
 use redo_dump::{LoadFault, Loaded, load};
 use redo_history::{cut_at, cut_at_arrow, cut_at_space, session_of};
-use redo_live::{Live, Unanswered};
+use redo_live::{Live, MOST_SESSIONS, Unanswered};
 use std::alloc::{AllocError, Global};
 use thiserror::Error;
 
@@ -20,9 +20,6 @@ pub const LOG_HEADER: &[u8] = b"redodb-log 1\n";
 
 /// The first line of a log that begins with a dump.
 pub const DUMP_HEADER: &[u8] = b"redodb-log 2\n";
-
-/// How many sessions a log has at most.
-const MOST_SESSIONS: u16 = 65_535;
 
 /// A database in the state after a log's lines.
 #[derive(Drop)]

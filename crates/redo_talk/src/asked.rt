@@ -2,9 +2,7 @@ ghost use Rattle.std.specs.Prelude.{MatchOption};
 ghost use Rattle.redo_talk.specs.Rounds.{Asks, HasNoSession};
 
 use redo_history::{cut_at, session_of};
-
-/// How many sessions a conversation has at most.
-const MOST_SESSIONS: u16 = 65_535;
+use redo_live::MOST_SESSIONS;
 
 /// The session, counted from 0, and the text of a line.
 pub(crate) fn asked(line: &[u8]) -> Option<(u16, &[u8])>

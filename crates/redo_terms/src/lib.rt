@@ -13,5 +13,5 @@ pub use command::{Command, boxed, unboxed};
 pub use digest::Digest;
 pub use kind::Kind;
 pub use reply::{Line, Refusal, Reply};
-pub use script::{Item, Script};
+pub use script::{Item, MOST_SESSIONS, Script};
 pub use stamp::{FileStamp, LONGEST_STAMP};

@@ -3,6 +3,9 @@ ghost use Rattle.std.specs.Prelude.{◌≡◌, ◌≤◌, length};
 use crate::command::Command;
 use std::marker::Model;
 
+/// How many sessions a run or a history has at most.
+pub const MOST_SESSIONS: usize = 64;
+
 /// A line of a script. A guarded one is done only if the session's latest reply lets it through.
 #[derive(Debug, Drop)]
 pub struct Item {
