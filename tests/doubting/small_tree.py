@@ -71,6 +71,7 @@ def libraries() -> Files:
 SMALL: Files = {
     "README.md": "# A tree of some 4 lines, which [docs/BELIEVE.md](docs/BELIEVE.md) lists\n",
     "bench/README.md": "# Nothing\n",
+    "tests/README.md": "# Nothing\n",
     "docs/BELIEVE.md": BELIEVE,
     "docs/PROMISES.md": f"# Promises\n\n```rust\n{RUN_TEXTS}```\n",
     "crates/redo_model/src/lib.rt": "",
@@ -98,8 +99,7 @@ class SmallTree:
     def __init__(self, top: Path) -> None:
         self.top = top
         (top / "tests").mkdir()
-        for name in ("believe", "links.py"):
-            shutil.copy(TESTS / name, top / "tests" / name)
+        shutil.copy(TESTS / "believe", top / "tests" / "believe")
         shutil.copytree(TESTS / "believed", top / "tests" / "believed")
         # so that Python reads them once
         compileall.compile_dir(top / "tests", quiet=1)

@@ -1,6 +1,6 @@
 use std::alloc::{AllocError, Global};
 
-/// How many bytes a report requests; `tests/refusing.c` counts such requests.
+/// How many bytes a report requests; `tests/shared/refusing.c` counts such requests.
 const MARK: usize = 54_321;
 
 /// Reports, by a request for memory, that memory was refused to a call. Returns whether the request

@@ -1,5 +1,6 @@
 //! Tests of what no program can be asked and no contract says: of names, stamps and digests, of devices that fail, of
-//! copies, and of a conversation and a dump in memory. `tests/refusals` runs some with each request for memory refused.
+//! copies, and of a conversation and a dump in memory. `tests/failing/refusals` runs some with each request for memory
+//! refused.
 #![tactic(auto)]
 
 #[cfg(test)]
