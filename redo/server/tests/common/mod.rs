@@ -183,7 +183,7 @@ fn live() -> PathBuf {
             return PathBuf::from(chosen);
         }
         let made = Path::new(env!("CARGO_TARGET_TMPDIR")).join("redodb-live-plain");
-        let source = Path::new(env!("CARGO_MANIFEST_DIR")).join("../../bench/live/plain.rs");
+        let source = Path::new(env!("CARGO_MANIFEST_DIR")).join("../../bench/rivals/live/plain.rs");
         let mut command = Command::new("rustc");
         command
             .args(["--edition", "2021", "-O"])

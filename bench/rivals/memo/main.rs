@@ -15,7 +15,7 @@ mod printing;
 mod reading;
 mod rounds;
 mod rows;
-#[path = "../rival/sha1.rs"]
+#[path = "../sessions/sha1.rs"]
 mod sha1;
 mod store;
 mod writing;

@@ -26,7 +26,7 @@ mod questions;
 mod reading;
 #[path = "../memo/rows.rs"]
 mod rows;
-#[path = "../rival/sha1.rs"]
+#[path = "../sessions/sha1.rs"]
 mod sha1;
 #[path = "../memo/store.rs"]
 #[allow(dead_code)]
