@@ -1,4 +1,5 @@
-/* The C side of libredodb: it tests for null pointers and impossible lengths, which Rattle can't, and calls redo_c. */
+/* The C side of libredodb: it tests for null pointers and impossible lengths, which Rattle can't, and calls
+ * redodb_c. */
 #include "redodb.h"
 
 #include <stdint.h>
@@ -7,12 +8,12 @@
 
 #define EXPORTED __attribute__((visibility("default")))
 
-/* `Handle` of crates/redo_c: where the memory of a database begins. */
+/* `Handle` of crates/redodb_c: where the memory of a database begins. */
 typedef struct handle {
     unsigned char *at;
 } handle;
 
-/* `Told` of crates/redo_c. */
+/* `Told` of crates/redodb_c. */
 typedef struct told {
     size_t size;
     size_t logged;
@@ -22,26 +23,26 @@ struct redodb {
     handle handle;
 };
 
-/* The calls of crates/redo_c. A slice is a pointer, which is never null, and a length. If a database is open at the
- * handle, redo_c_open and redo_c_restore end it if they return REDODB_OK, and else leave it; here none ever is. */
-size_t redo_c_room(void);
-void redo_c_place(unsigned char *at);
-uint32_t redo_c_open(handle *handle);
-uint32_t redo_c_restore(handle *handle, const unsigned char *log, size_t size, redodb_restored *restored);
-uint32_t redo_c_answer(handle *handle, const unsigned char *line, size_t length, unsigned char *room, size_t most,
+/* The calls of crates/redodb_c. A slice is a pointer, which is never null, and a length. If a database is open at the
+ * handle, redodb_c_open and redodb_c_restore end it if they return REDODB_OK, and else leave it; here none ever is. */
+size_t redodb_c_room(void);
+void redodb_c_place(unsigned char *at);
+uint32_t redodb_c_open(handle *handle);
+uint32_t redodb_c_restore(handle *handle, const unsigned char *log, size_t size, redodb_restored *restored);
+uint32_t redodb_c_answer(handle *handle, const unsigned char *line, size_t length, unsigned char *room, size_t most,
                        told *told);
-void redo_c_close(handle *handle);
+void redodb_c_close(handle *handle);
 
 /* Memory for a database, in which none is open yet; or null. */
 static redodb *make(void) {
     redodb *database = malloc(sizeof *database);
     if (database == NULL) return NULL;
-    database->handle.at = malloc(redo_c_room());
+    database->handle.at = malloc(redodb_c_room());
     if (database->handle.at == NULL) {
         free(database);
         return NULL;
     }
-    redo_c_place(database->handle.at);
+    redodb_c_place(database->handle.at);
     return database;
 }
 
@@ -55,7 +56,7 @@ EXPORTED int redodb_open(redodb **database) {
     *database = NULL;
     redodb *made = make();
     if (made == NULL) return REDODB_MEMORY;
-    int status = (int)redo_c_open(&made->handle);
+    int status = (int)redodb_c_open(&made->handle);
     if (status != REDODB_OK) {
         unmake(made);
         return status;
@@ -73,7 +74,7 @@ EXPORTED int redodb_restore(redodb **database, const void *log, size_t size, red
     redodb *made = make();
     if (made == NULL) return REDODB_MEMORY;
     unsigned char nothing = 0;
-    int status = (int)redo_c_restore(&made->handle, log == NULL ? &nothing : log, size, &told);
+    int status = (int)redodb_c_restore(&made->handle, log == NULL ? &nothing : log, size, &told);
     if (restored != NULL) *restored = told;
     if (status != REDODB_OK) {
         unmake(made);
@@ -103,7 +104,7 @@ EXPORTED int redodb_answer(redodb *database, const char *line, size_t length, ch
     int status = REDODB_MISUSE;
     if (database != NULL && (line != NULL || length == 0) && (room != NULL || most == 0) && length <= PTRDIFF_MAX
         && most <= PTRDIFF_MAX && !overlap(line, length, room, most))
-        status = (int)redo_c_answer(&database->handle, line == NULL ? &no_line : (const unsigned char *)line, length,
+        status = (int)redodb_c_answer(&database->handle, line == NULL ? &no_line : (const unsigned char *)line, length,
                                     room == NULL ? &no_room : (unsigned char *)room, most, &told);
     if (status == REDODB_FAULT && lacks_memory(room, told.size)) {
         status = REDODB_MEMORY;
@@ -117,7 +118,7 @@ EXPORTED int redodb_answer(redodb *database, const char *line, size_t length, ch
 EXPORTED int redodb_close(redodb **database) {
     if (database == NULL) return REDODB_MISUSE;
     if (*database == NULL) return REDODB_OK;
-    redo_c_close(&(*database)->handle);
+    redodb_c_close(&(*database)->handle);
     unmake(*database);
     *database = NULL;
     return REDODB_OK;

@@ -47,7 +47,7 @@ TO PROVE IT AGAIN
 
     git clone URL redodb && cd redodb && git checkout {short}
     ./prove --library                     # wants the kit
-    sha256sum crates/*/out/redo_cli crates/*/out/redo_live_cli library/out/libredodb.so.0
+    sha256sum crates/*/out/redodb_cli crates/*/out/redodb_live_cli library/out/libredodb.so.0
     ./check                               # the proofs, the edits that they refuse, all tests
 
 Which source is what is proved, and what the proof rests on: docs/BELIEVE.md.

@@ -9,7 +9,7 @@ from pathlib import Path
 from machine import TOP, ReleaseError, output
 from state import State, files_of_git, kit_folder
 
-PROGRAMS = {"redodb": "redo_cli", "redodb-live": "redo_live_cli"}
+PROGRAMS = {"redodb": "redodb_cli", "redodb-live": "redodb_live_cli"}
 LIBEXEC = "lib/redodb/libexec"
 LIBRARY = "lib/libredodb.so.0"
 PYTHON = "lib/redodb/python"

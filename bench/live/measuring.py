@@ -6,7 +6,7 @@ from pathlib import Path
 from typing import Callable, Sequence
 
 TOP = Path(__file__).resolve().parent.parent.parent
-PROGRAM = TOP / "crates/redo_live_cli/out/redo_live_cli"
+PROGRAM = TOP / "crates/redodb_live_cli/out/redodb_live_cli"
 ROUNDS = int(os.environ.get("ROUNDS", "5"))
 
 

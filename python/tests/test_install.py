@@ -22,7 +22,7 @@ COPIED = [
     "include",
     "python/redodb",
 ]
-BUILT = "crates/redo_live_cli/out/redo_live_cli"
+BUILT = "crates/redodb_live_cli/out/redodb_live_cli"
 REDO = TOP / "redo/target/release/redo"
 PACKAGES = "lib/redodb/python"
 STAND_IN = '#!/bin/sh\necho "program $*"\n'
@@ -87,7 +87,7 @@ class InstallCopy(InstallTest):
                 shutil.copy2(TOP / name, self.copy / name)
         self.write("copy/crates.txt", "")
         self.age("copy/crates.txt", 10)
-        for crate in ("redo_cli", "redo_live_cli"):
+        for crate in ("redodb_cli", "redodb_live_cli"):
             self.write(f"copy/crates/{crate}/out/{crate}", STAND_IN).chmod(0o755)
             self.write(f"copy/crates/{crate}/out/{crate}.sources", "crates.txt")
         for name in ("redo", "redo-server"):
@@ -256,7 +256,7 @@ class InstallCopy(InstallTest):
         self.assert_not_proved("redodb and redodb-live")
 
     def test_one_program_is_missing(self) -> None:
-        (self.copy / "crates/redo_live_cli/out/redo_live_cli").unlink()
+        (self.copy / "crates/redodb_live_cli/out/redodb_live_cli").unlink()
         self.assert_not_proved("redodb-live")
 
     def test_redo_is_missing(self) -> None:
@@ -284,7 +284,7 @@ class InstallCopy(InstallTest):
 
 
 @unittest.skipUnless(
-    is_proved("redo_cli") and is_proved("redo_live_cli") and REDO.exists(),
+    is_proved("redodb_cli") and is_proved("redodb_live_cli") and REDO.exists(),
     "wants the proved programs, and redo",
 )
 class InstallRepository(InstallTest):

@@ -20,7 +20,7 @@ class RecordHistory(TreeTest):
         for name in ("one.c", "two.c", "a.h"):
             self.age(name, 10)
 
-    @unittest.skipUnless(is_proved("redo_cli"), "wants the proved redodb")
+    @unittest.skipUnless(is_proved("redodb_cli"), "wants the proved redodb")
     def test_replays_as_the_same(self) -> None:
         self.age("two.c", -100)
         lines = self.recorded("depfiles")

@@ -7,16 +7,16 @@ from believed.code import Contract, paths_of
 # a crate and a public function of it
 Root = tuple[str, str]
 ROOTS: list[Root] = [
-    ("redo_session", "run_texts"),
-    ("redo_replay", "replay_text"),
-    ("redo_talk", "serve"),
-    ("redo_words", "job"),
-    ("redo_words", "conversation"),
-    ("redo_words", "finish"),
+    ("redodb_run", "run_texts"),
+    ("redodb_replay", "replay_text"),
+    ("redodb_conversation", "serve"),
+    ("redodb_arguments", "job"),
+    ("redodb_arguments", "conversation"),
+    ("redodb_arguments", "finish"),
 ]
 # what a run says besides, of which the texts can't tell: the page's last part has what this rests
 # on and they don't
-BESIDE: list[Root] = [("redo_session", "run")]
+BESIDE: list[Root] = [("redodb_run", "run")]
 # replay_text's result is spoken of otherwise than by its error, or the first part of what it judged
 NOT_BY_VERDICT = (
     r"(?<!IfErr )(?<!IsErrOf )(?<!IsErrAnd )(?<!IfOk )\bresult\b"

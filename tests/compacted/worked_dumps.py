@@ -1,5 +1,5 @@
 """Dumps that were worked out by hand from "The log" of docs/RULES.md, the sums by sha1sum. The
-first four are those of crates/redo_dump/specs/Worked.antt."""
+first four are those of crates/redodb_dump/specs/Worked.antt."""
 from typing import Iterable
 
 from shared.recorded import Cell, Kind, State

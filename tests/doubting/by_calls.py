@@ -1,17 +1,17 @@
 """Programs that call a root, and others that only seem to."""
 from doubting.small_tree import PROGRAM, SAME, SMALL, Case, Files
 
-MAIN = "crates/redo_cli/src/main.rt"
-OTHER = "crates/redo_cli/src/other.rt"
-ENDING = "crates/redo_words/src/lib.rt"
-USE = "use redo_words::finish;\n"
+MAIN = "crates/redodb_cli/src/main.rt"
+OTHER = "crates/redodb_cli/src/other.rt"
+ENDING = "crates/redodb_arguments/src/lib.rt"
+USE = "use redodb_arguments::finish;\n"
 CALL = "    finish(0);\n"
 BODY = " {\n    finish(0);\n}\n"
 BELOW = "    below(0);\n"
-BELOW_USE = "use redo_text::calls::below;\n"
-LIBRARY = "crates/redo_text/src/calls.rt"
-UNCALLED = "docs/BELIEVE.md: no program calls finish of redo_words in main, or right below it"
-ODD = "tests/believe: crates/redo_cli/src/main.rt: "
+BELOW_USE = "use redodb_text::calls::below;\n"
+LIBRARY = "crates/redodb_text/src/calls.rt"
+UNCALLED = "docs/BELIEVE.md: no program calls finish of redodb_arguments in main, or right below it"
+ODD = "tests/believe: crates/redodb_cli/src/main.rt: "
 
 
 def calling(call: str, more: str = "", use: str = USE) -> Files:
@@ -37,8 +37,8 @@ def in_library(name: str, function: str, call: str = "", use: str = "") -> Case:
 
 OTHERS = str(SMALL[ENDING]).replace(SAME.format("finish"), "")
 PASSED_ON: Files = {
-    ENDING: "mod inner;\n\npub use redo_text::finish;\n" + OTHERS,
-    "crates/redo_words/src/inner.rt": "ghost use Rattle.std.specs.Prelude.{◌≡◌};\n"
+    ENDING: "mod inner;\n\npub use redodb_text::finish;\n" + OTHERS,
+    "crates/redodb_arguments/src/inner.rt": "ghost use Rattle.std.specs.Prelude.{◌≡◌};\n"
     + SAME.format("finish"),
 }
 BY_CALLS: list[Case] = [
@@ -53,15 +53,15 @@ BY_CALLS: list[Case] = [
     uncalled("a method", "    word.finish(0);\n"),
     uncalled("a longer name", "    finish_all(0);\n    refinish(0);\n"),
     uncalled("a function of another module", "    other::finish(0);\n"),
-    uncalled("a function of another crate, by its path", "    redo_text::finish(0);\n"),
+    uncalled("a function of another crate, by its path", "    redodb_text::finish(0);\n"),
     uncalled("a function of a trait", "    <u8 as Ends>::finish(0);\n"),
-    uncalled("a function of another crate", CALL, use="use redo_text::finish;\n"),
-    uncalled("another function under this name", CALL, use="use redo_words::{end as finish};\n"),
+    uncalled("a function of another crate", CALL, use="use redodb_text::finish;\n"),
+    uncalled("another function under this name", CALL, use="use redodb_arguments::{end as finish};\n"),
     uncalled("the program's own function", CALL, "fn finish(word: u8) {}\n", use=""),
     uncalled(
         "the program's own function, and an import in a module",
         CALL,
-        "fn finish(word: u8) {}\nmod inner {\n    use redo_words::finish;\n}\n",
+        "fn finish(word: u8) {}\nmod inner {\n    use redodb_arguments::finish;\n}\n",
         use="",
     ),
     uncalled("a variable", "    let finish = end;\n" + CALL),
@@ -114,10 +114,10 @@ BY_CALLS: list[Case] = [
 ]
 CALLED: list[tuple[str, Files]] = [
     ("a function below main", calling(BELOW, "fn below(word: u8)" + BODY)),
-    ("a call by its path", calling("    redo_words::finish(0);\n", use="")),
-    ("a call by a module's path", calling("    redo_words::inner::finish(0);\n", use="")),
-    ("another name", calling("    end(0);\n", use="use redo_words::finish as end;\n")),
-    ("a crate's other name", calling("    end::finish(0);\n", use="use redo_words as end;\n")),
+    ("a call by its path", calling("    redodb_arguments::finish(0);\n", use="")),
+    ("a call by a module's path", calling("    redodb_arguments::inner::finish(0);\n", use="")),
+    ("another name", calling("    end(0);\n", use="use redodb_arguments::finish as end;\n")),
+    ("a crate's other name", calling("    end::finish(0);\n", use="use redodb_arguments as end;\n")),
     ("types in a call", calling("    finish::<u8, Vec<u8>>(0);\n")),
     ("a variable that is its result", calling("    let finish = finish(0);\n")),
     ("a call in a call", calling("    end(|word| !finish(word));\n")),

@@ -2,14 +2,14 @@
 from doubting.hidden import FOUND, HIDDEN, MODEL
 from doubting.small_tree import Case, Files, with_session
 
-SOURCE = "crates/redo_session/src/lib.rt"
-OTHER = "crates/redo_session/src/other.rt"
-SPECS: Files = {"crates/redo_model/specs/Hidden.antt": HIDDEN}
+SOURCE = "crates/redodb_run/src/lib.rt"
+OTHER = "crates/redodb_run/src/other.rt"
+SPECS: Files = {"crates/redodb_model/specs/Hidden.antt": HIDDEN}
 CLAUSE = "    ensures right { Right result }\n"
 MORE = "    ensures more { hidden result }\n"
-FIRST = "ghost use Rattle.redo_model.specs.Rules.{Right};\n"
+FIRST = "ghost use Rattle.redodb_model.specs.Rules.{Right};\n"
 USE = f"ghost use {MODEL}.Hidden.{{hidden}};\n"
-UNFOLLOWED = "tests/believe: Rattle.redo_model.{} is reached, and isn't followed"
+UNFOLLOWED = "tests/believe: Rattle.redodb_model.{} is reached, and isn't followed"
 UNREAD = "the contract of run_texts can't be read"
 
 
@@ -29,7 +29,7 @@ def code_of(file: str, count: int) -> str:
     return f"docs/BELIEVE.md: {file}: {count} lines, and the page doesn't have it"
 
 
-INNER = "mod inner {\n    ghost use Rattle.redo_model.specs.Rules.{Right as hidden};\n}\n"
+INNER = "mod inner {\n    ghost use Rattle.redodb_model.specs.Rules.{Right as hidden};\n}\n"
 ENUM: Files = {OTHER: "pub enum Hidden {\n    A,\n}\n"}
 BY_CLAUSES: list[Case] = [
     clause("a clause", MORE),
@@ -61,7 +61,7 @@ BY_CLAUSES: list[Case] = [
     (
         "a type of the code in a clause",
         session("    ensures more { Hidden.A }\n", "use crate::other::Hidden;\n", ENUM),
-        code_of("redo_session/src/other.rt", 3),
+        code_of("redodb_run/src/other.rt", 3),
     ),
     (
         "a path of Rust in a clause",
@@ -75,7 +75,7 @@ BY_CLAUSES: list[Case] = [
             f"ghost use {MODEL}.Hidden.{{hidden as Hidden}};\nuse crate::other::Hidden;\n",
             ENUM,
         ),
-        code_of("redo_session/src/other.rt", 3),
+        code_of("redodb_run/src/other.rt", 3),
     ),
     (
         "the contract of another function",
@@ -84,7 +84,7 @@ BY_CLAUSES: list[Case] = [
     ),
     (
         "a definition of proofs",
-        session("    ensures more { it }\n", "ghost use Rattle.redo_model.proofs.Bases.{it};\n"),
+        session("    ensures more { it }\n", "ghost use Rattle.redodb_model.proofs.Bases.{it};\n"),
         UNFOLLOWED.format("proofs.Bases.it"),
     ),
     (

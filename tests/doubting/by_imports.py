@@ -52,9 +52,9 @@ BY_IMPORTS: list[Case] = [
         "a file that is a folder's",
         {
             **with_rules(USE, RIGHT.format("hidden")),
-            "crates/redo_model/specs/Hidden/Lib.antt": HIDDEN,
+            "crates/redodb_model/specs/Hidden/Lib.antt": HIDDEN,
         },
-        "docs/BELIEVE.md: redo_model/specs/Hidden/Lib.antt: 2 lines, and the page doesn't have it",
+        "docs/BELIEVE.md: redodb_model/specs/Hidden/Lib.antt: 2 lines, and the page doesn't have it",
     ),
     refused("all names of a module", f"use {MODEL}.Hidden.*", RIGHT.format("hidden")),
     refused("a library that isn't known", "use Other.Hidden.{hidden}", RIGHT.format("hidden")),

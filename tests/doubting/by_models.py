@@ -7,7 +7,7 @@ from doubting.small_tree import Case, Files, with_rules, with_session
 
 def modelled(name: str, model: str, complaint: str = FOUND.format(2)) -> Case:
     """A type whose model is this."""
-    hidden: Files = {"crates/redo_model/specs/Hidden.antt": HIDDEN}
+    hidden: Files = {"crates/redodb_model/specs/Hidden.antt": HIDDEN}
     return declared(name, "pub struct Outer {\n    first: u8,\n}\n" + model, hidden, complaint)
 
 
@@ -16,8 +16,8 @@ def replayed(clause: str) -> Files:
     code = "ghost use Rattle.std.specs.Prelude.{IfOk, IsOk};\n\nuse crate::live::Live;\n\n"
     code += "pub fn replay_text(word: u8) -> (u8, Live)\n"
     return {
-        "crates/redo_replay/src/lib.rt": f"{code}    ensures ok {{ {clause} }}\n{{\n    word\n}}\n",
-        "crates/redo_replay/src/live.rt": "pub struct Live(u8);\n",
+        "crates/redodb_replay/src/lib.rt": f"{code}    ensures ok {{ {clause} }}\n{{\n    word\n}}\n",
+        "crates/redodb_replay/src/live.rt": "pub struct Live(u8);\n",
     }
 
 
@@ -26,9 +26,9 @@ BY_MODELS: list[Case] = [
     (
         "a function of the code as a definition",
         with_rules(
-            "use Rattle.redo_session.specs.declared.other.{part}", RIGHT.replace("Outer", "part")
+            "use Rattle.redodb_run.specs.declared.other.{part}", RIGHT.replace("Outer", "part")
         ),
-        "crates/redo_session/src: no file of other.part",
+        "crates/redodb_run/src: no file of other.part",
     ),
     modelled("a model", MODEL),
     modelled("a model's value", MODEL.replace("view", "Value")),
@@ -54,7 +54,7 @@ BY_MODELS: list[Case] = [
     declared(
         "a model in another file",
         "pub struct Outer {\n    first: u8,\n}\n",
-        {"crates/redo_session/src/apart.rt": MODEL, "crates/redo_model/specs/Hidden.antt": HIDDEN},
+        {"crates/redodb_run/src/apart.rt": MODEL, "crates/redodb_model/specs/Hidden.antt": HIDDEN},
         FOUND.format(2),
     ),
     modelled(
@@ -69,7 +69,7 @@ BY_MODELS: list[Case] = [
                 {FIRST: FIRST + "use crate::other::Outer;\n", "run(word: u8": "run(word: Outer"}
             ),
             OTHER: "pub struct Outer(u8);\n" + MODEL.replace("view", "Value"),
-            "crates/redo_model/specs/Hidden.antt": HIDDEN,
+            "crates/redodb_model/specs/Hidden.antt": HIDDEN,
         },
         FOUND.format(2),
     ),
@@ -77,7 +77,7 @@ BY_MODELS: list[Case] = [
         (
             "a database that a clause speaks of",
             replayed(clause),
-            code_of("redo_replay/src/live.rt", 1),
+            code_of("redodb_replay/src/live.rt", 1),
         )
         for clause in ("IfOk result (λ judged. judged.1)", "IfOk result IsOk", "IsOk result")
     ],

@@ -18,7 +18,7 @@ def longer(count: int, said: str) -> Files:
     return {
         **readme(f"some {said} lines, which"),
         "docs/BELIEVE.md": page,
-        "crates/redo_model/specs/Bases.antt": bases,
+        "crates/redodb_model/specs/Bases.antt": bases,
     }
 
 

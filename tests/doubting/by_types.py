@@ -2,11 +2,11 @@
 from doubting.by_clauses import FIRST, OTHER, SOURCE, code_of
 from doubting.small_tree import Case, Files, with_rules, with_session
 
-KINDS = "crates/redo_model/src/kinds.rt"
+KINDS = "crates/redodb_model/src/kinds.rt"
 STRUCT = "pub struct Hidden {\n    first: u8,\n}\n"
-IN_KINDS = code_of("redo_model/src/kinds.rt", 3)
-IN_OTHER = code_of("redo_session/src/other.rt", 3)
-OUTER = "use Rattle.redo_session.specs.declared.other.Outer.{Outer}"
+IN_KINDS = code_of("redodb_model/src/kinds.rt", 3)
+IN_OTHER = code_of("redodb_run/src/other.rt", 3)
+OUTER = "use Rattle.redodb_run.specs.declared.other.Outer.{Outer}"
 RIGHT = "abbrev pub Right : ℕ → Type 0\nRight n = n ≡ base × Outer"
 
 
@@ -28,34 +28,34 @@ def inner(name: str, outer: str) -> Case:
 
 def same_file(name: str, outer: str, count: int) -> Case:
     """Items of the same file that it is made of, with it this number of lines."""
-    return declared(name, outer, {}, code_of("redo_session/src/other.rt", count))
+    return declared(name, outer, {}, code_of("redodb_run/src/other.rt", count))
 
 
 TRAIT = "pub trait Hidden {\n    ghost part: u8;\n}\n"
 BY_SIGNATURES: list[Case] = [
-    signed("a type of the signature", "Hidden", "use redo_model::Hidden;\n", {}),
-    signed("imports over lines", "Hidden", "use redo_model::{\n    Hidden,\n};\n", {}),
-    signed("braces in braces", "Hidden", "use redo_model::{a, kinds::{b, Hidden}};\n", {}),
-    signed("all names of a crate", "Hidden", "use redo_model::*;\n", {}),
-    signed("an alias of Rust", "Seen", "use redo_model::Hidden as Seen;\n", {}),
-    signed("an alias of a crate", "m::Hidden", "use redo_model as m;\n", {}),
-    signed("an alias of a module itself", "k::Hidden", "use redo_model::kinds::{self as k};\n", {}),
-    signed("a path from the outermost on", "Hidden", "use ::redo_model::Hidden;\n", {}),
+    signed("a type of the signature", "Hidden", "use redodb_model::Hidden;\n", {}),
+    signed("imports over lines", "Hidden", "use redodb_model::{\n    Hidden,\n};\n", {}),
+    signed("braces in braces", "Hidden", "use redodb_model::{a, kinds::{b, Hidden}};\n", {}),
+    signed("all names of a crate", "Hidden", "use redodb_model::*;\n", {}),
+    signed("an alias of Rust", "Seen", "use redodb_model::Hidden as Seen;\n", {}),
+    signed("an alias of a crate", "m::Hidden", "use redodb_model as m;\n", {}),
+    signed("an alias of a module itself", "k::Hidden", "use redodb_model::kinds::{self as k};\n", {}),
+    signed("a path from the outermost on", "Hidden", "use ::redodb_model::Hidden;\n", {}),
     signed(
         "a crate under another name",
         "m::Hidden",
-        "extern crate redo_model as m;\n",
+        "extern crate redodb_model as m;\n",
         {},
-        "crates/redo_session/src/lib.rt: an extern crate can't be read",
+        "crates/redodb_run/src/lib.rt: an extern crate can't be read",
     ),
-    signed("a path of Rust", "redo_model::kinds::Hidden", "", {}),
-    signed("a module of Rust", "kinds::Hidden", "use redo_model::kinds;\n", {}),
-    signed("a module itself", "kinds::Hidden", "use redo_model::kinds::{self};\n", {}),
+    signed("a path of Rust", "redodb_model::kinds::Hidden", "", {}),
+    signed("a module of Rust", "kinds::Hidden", "use redodb_model::kinds;\n", {}),
+    signed("a module itself", "kinds::Hidden", "use redodb_model::kinds::{self};\n", {}),
     signed(
         "a type that is passed on",
         "Hidden",
-        "use redo_talk::Hidden;\n",
-        {"crates/redo_talk/src/passed.rt": "pub use redo_model::kinds::Hidden;\n"},
+        "use redodb_conversation::Hidden;\n",
+        {"crates/redodb_conversation/src/passed.rt": "pub use redodb_model::kinds::Hidden;\n"},
     ),
     signed(
         "a type that isn't public",
@@ -82,28 +82,28 @@ BY_SIGNATURES: list[Case] = [
     signed(
         "a type that isn't there",
         "Hidden",
-        "use redo_model::kinds::Hidden;\n",
+        "use redodb_model::kinds::Hidden;\n",
         {KINDS: "made! { Hidden }\n"},
-        "crates/redo_session/src/lib.rt: nothing is found of redo_model::kinds::Hidden",
+        "crates/redodb_run/src/lib.rt: nothing is found of redodb_model::kinds::Hidden",
     ),
 ]
 BY_TYPES: list[Case] = [
-    inner("a field", "use redo_model::Hidden;\npub struct Outer {\n    a: Hidden,\n}\n"),
+    inner("a field", "use redodb_model::Hidden;\npub struct Outer {\n    a: Hidden,\n}\n"),
     inner(
         "a field that begins a line",
-        "use redo_model::Hidden;\npub struct Outer(\n    u8,\n    Hidden,\n);\n",
+        "use redodb_model::Hidden;\npub struct Outer(\n    u8,\n    Hidden,\n);\n",
     ),
     inner(
         "a variant's field",
-        "use redo_model::Hidden;\npub enum Outer {\n    A(\n        Hidden,\n    ),\n}\n",
+        "use redodb_model::Hidden;\npub enum Outer {\n    A(\n        Hidden,\n    ),\n}\n",
     ),
-    inner("an alias on the next line", "use redo_model::Hidden;\npub type Outer =\n    Hidden;\n"),
-    inner("a path in a field", "pub struct Outer {\n    a: redo_model::kinds::Hidden,\n}\n"),
+    inner("an alias on the next line", "use redodb_model::Hidden;\npub type Outer =\n    Hidden;\n"),
+    inner("a path in a field", "pub struct Outer {\n    a: redodb_model::kinds::Hidden,\n}\n"),
     inner(
         "an import of several lines",
-        "use redo_model::{\n    Hidden,\n};\npub struct Outer(Hidden);\n",
+        "use redodb_model::{\n    Hidden,\n};\npub struct Outer(Hidden);\n",
     ),
-    inner("an alias in a field", "use redo_model::Hidden as H;\npub struct Outer(\n    u8, H);\n"),
+    inner("an alias in a field", "use redodb_model::Hidden as H;\npub struct Outer(\n    u8, H);\n"),
     same_file("a private type", "struct Inner {\n    a: u8,\n}\n\npub struct Outer(Inner);\n", 4),
     same_file("a constant", "const MOST: u8 = 3;\n\npub struct Outer([u8; MOST]);\n", 2),
     same_file(

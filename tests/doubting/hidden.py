@@ -1,11 +1,11 @@
 """How a definition is hidden in the small tree, and the complaint that the page doesn't list it."""
 from doubting.small_tree import Case, with_rules
 
-MODEL = "Rattle.redo_model.specs"
+MODEL = "Rattle.redodb_model.specs"
 NAT = "use Rattle.std.specs.Prelude.{ℕ}\n"
 HIDDEN = NAT + "\nabbrev pub hidden : ℕ\nhidden = 2\n"
-FOUND = "docs/BELIEVE.md: redo_model/specs/Hidden.antt: {} lines, and the page doesn't have it"
-LONGER = "docs/BELIEVE.md: redo_model/specs/Rules.antt: {} lines, and the page has 2"
+FOUND = "docs/BELIEVE.md: redodb_model/specs/Hidden.antt: {} lines, and the page doesn't have it"
+LONGER = "docs/BELIEVE.md: redodb_model/specs/Rules.antt: {} lines, and the page has 2"
 RIGHT = "abbrev pub Right : ℕ → Type 0\nRight n = n ≡ base × n ≡ {}"
 UNREAD = "can't be read"
 

@@ -21,14 +21,14 @@ RUN_TEXTS = """pub fn run_texts(word: u8) -> u8
     ensures right { Right result }
 """
 SESSION = (
-    "ghost use Rattle.redo_model.specs.Rules.{Right};\n\n"
+    "ghost use Rattle.redodb_model.specs.Rules.{Right};\n\n"
     + RUN_TEXTS
     + "{\n    word\n}\n"
     + SAME.format("run")
 )
 RULES_USES = """-- What is right.
 use Rattle.std.specs.Prelude.{ℕ, ◌≡◌, codes}
-use Rattle.redo_model.specs.Bases.{base}
+use Rattle.redodb_model.specs.Bases.{base}
 """
 RULES = RULES_USES + "\nabbrev pub Right : ℕ → Type 0\nRight n = n ≡ base\n"
 BASES = "use Rattle.std.specs.Prelude.{ℕ}\n\nabbrev pub base : ℕ\nbase = 1\n"
@@ -39,8 +39,8 @@ BELIEVE = f"""# What has to be believed
 
 | File of `crates` | Lines | What it says |
 |---|---|---|
-| `redo_model/specs/Bases.antt` | 2 | The base. |
-| `redo_model/specs/Rules.antt` | 2 | What is right. |
+| `redodb_model/specs/Bases.antt` | 2 | The base. |
+| `redodb_model/specs/Rules.antt` | 2 | What is right. |
 
 4 lines in 2 files.
 
@@ -65,7 +65,7 @@ def libraries() -> Files:
     for crate, function in ROOTS:
         path = f"crates/{crate}/src/lib.rt"
         texts[path] = texts.get(path, PRELUDE) + SAME.format(function)
-    return {**texts, "crates/redo_session/src/lib.rt": SESSION}
+    return {**texts, "crates/redodb_run/src/lib.rt": SESSION}
 
 
 SMALL: Files = {
@@ -74,11 +74,11 @@ SMALL: Files = {
     "tests/README.md": "# Nothing\n",
     "docs/BELIEVE.md": BELIEVE,
     "docs/PROMISES.md": f"# Promises\n\n```rust\n{RUN_TEXTS}```\n",
-    "crates/redo_model/src/lib.rt": "",
-    "crates/redo_model/specs/Lib.antt": "pub mod Rules\npub mod Bases\n",
-    "crates/redo_model/specs/Rules.antt": RULES,
-    "crates/redo_model/specs/Bases.antt": BASES,
-    "crates/redo_cli/src/main.rt": PROGRAM,
+    "crates/redodb_model/src/lib.rt": "",
+    "crates/redodb_model/specs/Lib.antt": "pub mod Rules\npub mod Bases\n",
+    "crates/redodb_model/specs/Rules.antt": RULES,
+    "crates/redodb_model/specs/Bases.antt": BASES,
+    "crates/redodb_cli/src/main.rt": PROGRAM,
     **libraries(),
 }
 
@@ -123,13 +123,13 @@ class SmallTree:
 
 def with_rules(uses: str, body: str, **files: str) -> Files:
     """The small tree in which `Right` is the end of this body, after these imports; and other files
-    of redo_model's specs."""
-    named: Files = {f"crates/redo_model/specs/{name}.antt": text for name, text in files.items()}
-    return {"crates/redo_model/specs/Rules.antt": f"{RULES_USES}{uses}\n\n{body}\n", **named}
+    of redodb_model's specs."""
+    named: Files = {f"crates/redodb_model/specs/{name}.antt": text for name, text in files.items()}
+    return {"crates/redodb_model/specs/Rules.antt": f"{RULES_USES}{uses}\n\n{body}\n", **named}
 
 
 def with_session(changes: dict[str, str]) -> str:
-    """The code of redo_session with some texts replaced."""
+    """The code of redodb_run with some texts replaced."""
     text = SESSION
     for old, new in changes.items():
         assert old in text, old

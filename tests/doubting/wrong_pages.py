@@ -3,8 +3,8 @@ from doubting.small_tree import BASES, BELIEVE, RUN_TEXTS, SESSION, Case, Files,
 
 PAGE = "docs/BELIEVE.md"
 PROMISES = "docs/PROMISES.md"
-SOURCE = "crates/redo_session/src/lib.rt"
-BASE_ROW = "| `redo_model/specs/Bases.antt` | 2 | The base. |\n"
+SOURCE = "crates/redodb_run/src/lib.rt"
+BASE_ROW = "| `redodb_model/specs/Bases.antt` | 2 | The base. |\n"
 
 
 def page(old: str, new: str) -> Files:
@@ -27,22 +27,22 @@ def other_clause(code: str, quoted: str) -> Files:
 
 
 ALL = "docs/BELIEVE.md: the page doesn't say once '4 lines in all'"
-EXTRA = "| `redo_model/specs/More.antt` | 1 | More. |\n"
+EXTRA = "| `redodb_model/specs/More.antt` | 1 | More. |\n"
 WRONG_PAGES: list[Case] = [
     (
         "reached and not listed",
         page(BASE_ROW, ""),
-        "docs/BELIEVE.md: redo_model/specs/Bases.antt: 2 lines, and the page doesn't have it",
+        "docs/BELIEVE.md: redodb_model/specs/Bases.antt: 2 lines, and the page doesn't have it",
     ),
     (
         "listed and not reached",
         page(BASE_ROW, BASE_ROW + EXTRA),
-        "docs/BELIEVE.md: redo_model/specs/More.antt: is reached no more",
+        "docs/BELIEVE.md: redodb_model/specs/More.antt: is reached no more",
     ),
     (
         "a wrong number of lines",
         page("| 2 | The base", "| 3 | The base"),
-        "docs/BELIEVE.md: redo_model/specs/Bases.antt: 2 lines, and the page has 3",
+        "docs/BELIEVE.md: redodb_model/specs/Bases.antt: 2 lines, and the page has 3",
     ),
     (
         "a wrong sum",
@@ -61,47 +61,47 @@ WRONG_PAGES: list[Case] = [
     (
         "a file in the wrong part",
         {PAGE: BELIEVE.replace(BASE_ROW, "").replace("|\n\n0 lines", f"|\n{BASE_ROW}\n0 lines")},
-        "docs/BELIEVE.md: redo_model/specs/Bases.antt: is reached no more",
+        "docs/BELIEVE.md: redodb_model/specs/Bases.antt: is reached no more",
     ),
     (
         "a row twice, first with a wrong number",
         page(BASE_ROW, BASE_ROW.replace("2", "9") + BASE_ROW),
-        "docs/BELIEVE.md: redo_model/specs/Bases.antt: the page has it 2 times",
+        "docs/BELIEVE.md: redodb_model/specs/Bases.antt: the page has it 2 times",
     ),
     (
         "a row in another form",
-        page(BASE_ROW, BASE_ROW + "| redo_model/specs/More.antt | 1 | More. |\n"),
-        "docs/BELIEVE.md: a row can't be read: | redo_model/specs/More.antt | 1 | More. |",
+        page(BASE_ROW, BASE_ROW + "| redodb_model/specs/More.antt | 1 | More. |\n"),
+        "docs/BELIEVE.md: a row can't be read: | redodb_model/specs/More.antt | 1 | More. |",
     ),
-    ("no sentence", page("| The base. |", "| |"), "redo_model/specs/Bases.antt: has no sentence"),
+    ("no sentence", page("| The base. |", "| |"), "redodb_model/specs/Bases.antt: has no sentence"),
     (
         "a root that isn't named",
         page("`finish` of", "`end` of"),
-        "docs/BELIEVE.md: the page doesn't name finish of redo_words",
+        "docs/BELIEVE.md: the page doesn't name finish of redodb_arguments",
     ),
     (
         "a file that was renamed",
         {
-            "crates/redo_model/specs/Bases.antt": None,
-            "crates/redo_model/specs/Sub/Bases.antt": BASES,
-            "crates/redo_model/specs/Rules.antt": "use Rattle.redo_model.specs.Sub.Bases.{base}\n"
+            "crates/redodb_model/specs/Bases.antt": None,
+            "crates/redodb_model/specs/Sub/Bases.antt": BASES,
+            "crates/redodb_model/specs/Rules.antt": "use Rattle.redodb_model.specs.Sub.Bases.{base}\n"
             "use Rattle.std.specs.Prelude.{ℕ, ◌≡◌}\n\n"
             "abbrev pub Right : ℕ → Type 0\nRight n = n ≡ base\n",
         },
-        "redo_model/specs/Sub/Bases.antt: 2 lines, and the page doesn't have it",
+        "redodb_model/specs/Sub/Bases.antt: 2 lines, and the page doesn't have it",
     ),
     (
         "a file that was renamed, and its import wasn't",
         {
-            "crates/redo_model/specs/Bases.antt": None,
-            "crates/redo_model/specs/Bottom.antt": BASES,
+            "crates/redodb_model/specs/Bases.antt": None,
+            "crates/redodb_model/specs/Bottom.antt": BASES,
         },
-        "tests/believe: crates/redo_model/",
+        "tests/believe: crates/redodb_model/",
     ),
     (
         "a root that doesn't exist",
         {SOURCE: SESSION.replace("fn run_texts", "fn run_text")},
-        "tests/believe: crates/redo_session: no function run_texts",
+        "tests/believe: crates/redodb_run: no function run_texts",
     ),
     (
         "a root that is there in a comment alone",
@@ -110,17 +110,17 @@ WRONG_PAGES: list[Case] = [
                 "word\n}", "word\n}\n*/", 1
             )
         },
-        "tests/believe: crates/redo_session: no function run_texts",
+        "tests/believe: crates/redodb_run: no function run_texts",
     ),
     (
         "two roots of one name",
-        {"crates/redo_session/src/first.rt": SESSION.replace("Right result", "result ≡ word")},
-        "tests/believe: crates/redo_session: several functions run_texts",
+        {"crates/redodb_run/src/first.rt": SESSION.replace("Right result", "result ≡ word")},
+        "tests/believe: crates/redodb_run: several functions run_texts",
     ),
     (
         "a root without a contract",
         {SOURCE: with_session({"    ensures right { Right result }\n": ""})},
-        "tests/believe: crates/redo_session: run_texts has no contract",
+        "tests/believe: crates/redodb_run: run_texts has no contract",
     ),
     (
         "a misquoted contract",
@@ -165,15 +165,15 @@ WRONG_PAGES: list[Case] = [
     (
         "a definition that is inside and is reached",
         {
-            "crates/redo_model/specs/Inside/Bases.antt": BASES,
-            "crates/redo_model/specs/Bases.antt": "pub use Rattle.redo_model.specs.Inside.Bases"
+            "crates/redodb_model/specs/Support/Bases.antt": BASES,
+            "crates/redodb_model/specs/Bases.antt": "pub use Rattle.redodb_model.specs.Support.Bases"
             ".{base}\n",
         },
-        "crates/redo_model/specs/Inside/Bases.antt: is reached: base",
+        "crates/redodb_model/specs/Support/Bases.antt: is reached: base",
     ),
     (
         "a definition that no contract names",
-        {"crates/redo_model/specs/Bases.antt": BASES + "\nmore : Bases\nmore = base\n"},
-        "specs/Bases.antt: no public contract names it, and it belongs Inside: more",
+        {"crates/redodb_model/specs/Bases.antt": BASES + "\nmore : Bases\nmore = base\n"},
+        "specs/Bases.antt: no public contract names it, and it belongs in Support: more",
     ),
 ]

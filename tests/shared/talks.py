@@ -10,8 +10,8 @@ from typing import IO, Iterable
 from shared.processes import Ended
 
 TOP = Path(__file__).resolve().parent.parent.parent
-PROGRAM = TOP / "crates/redo_live_cli/out/redo_live_cli"
-REDODB = TOP / "crates/redo_cli/out/redo_cli"
+PROGRAM = TOP / "crates/redodb_live_cli/out/redodb_live_cli"
+REDODB = TOP / "crates/redodb_cli/out/redodb_cli"
 HEADER = "redodb-log 1\n"
 # an answer that isn't there after this many seconds doesn't come
 SECONDS = 60

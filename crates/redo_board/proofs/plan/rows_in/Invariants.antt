@@ -1,9 +1,0 @@
-use Rattle.std.proofs.Common.{◌≡◌, ◌≤◌, ◌*◌, map, take}
-use Rattle.redo_terms.specs.Inside.Meaning.{item_of}
-use Rattle.redo_board.specs.Rows.{rows_in}
-use Rattle.redo_board.proofs.plan.rows_in.Given as goal
-
-abbrev pub invariant-loop-item : goal.invariant-loop-item
-invariant-loop-item l =
-    (l.rows ≡ rows_in (map item_of (take l.item-index l.items)))
-    × (l.rows ≤ 2 * l.item-index)

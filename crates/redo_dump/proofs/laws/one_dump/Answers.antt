@@ -1,5 +1,0 @@
-use Rattle.redo_dump.proofs.OneDump.{one_dump}
-use Rattle.redo_dump.proofs.laws.one_dump.Goals as goal
-
-pub returns : goal.returns
-returns c = one_dump

@@ -1,9 +1,0 @@
-use Rattle.redo_dump.proofs.WorkedDumps.{building_dumped}
-use Rattle.redo_dump.proofs.WorkedStates.{building_is}
-use Rattle.redo_dump.proofs.worked.building_is_dumped.Goals as goal
-
-pub returns-clause-text : goal.returns-clause-text
-returns-clause-text c = building_dumped
-
-pub returns-clause-over : goal.returns-clause-over
-returns-clause-over c = building_is

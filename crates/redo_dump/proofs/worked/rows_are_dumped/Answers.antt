@@ -1,9 +1,0 @@
-use Rattle.redo_dump.proofs.WorkedDumps.{rows_dumped}
-use Rattle.redo_dump.proofs.WorkedStates.{with_rows_is}
-use Rattle.redo_dump.proofs.worked.rows_are_dumped.Goals as goal
-
-pub returns-clause-text : goal.returns-clause-text
-returns-clause-text c = rows_dumped
-
-pub returns-clause-over : goal.returns-clause-over
-returns-clause-over c = with_rows_is

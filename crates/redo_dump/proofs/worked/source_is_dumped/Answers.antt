@@ -1,9 +1,0 @@
-use Rattle.redo_dump.proofs.WorkedDumps.{source_dumped}
-use Rattle.redo_dump.proofs.WorkedStates.{source_is}
-use Rattle.redo_dump.proofs.worked.source_is_dumped.Goals as goal
-
-pub returns-clause-text : goal.returns-clause-text
-returns-clause-text c = source_dumped
-
-pub returns-clause-over : goal.returns-clause-over
-returns-clause-over c = source_is

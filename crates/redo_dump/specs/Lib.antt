@@ -1,3 +1,0 @@
-pub mod Dumps
-pub mod Inside
-pub mod Worked

@@ -1,9 +1,0 @@
-use Rattle.std.proofs.Common.{◌≡◌, length, map}
-use Rattle.redo_graph.proofs.Gathered.{AreBare}
-use Rattle.redo_graph.proofs.once.bare_blocks.Given as goal
-
-abbrev pub invariant-loop : goal.invariant-loop
-invariant-loop l = record {
-  count : length l.blocks.items ≡ l.counter;
-  bare : AreBare (map (λ block. block.items) l.blocks.items);
-}

@@ -1,5 +1,0 @@
-use Rattle.redo_graph.specs.Inside.Pairs.{AreStarts}
-use Rattle.redo_graph.proofs.once.starts_of.Given as goal
-
-abbrev pub invariant-loop-first : goal.invariant-loop-first
-invariant-loop-first l = AreStarts l.pairs l.first l.starts.items

@@ -1,4 +1,0 @@
-pub mod Pairs
-pub mod Steps
-pub mod Graphs
-pub mod Inside

@@ -1,5 +1,0 @@
-use Rattle.redo_history.proofs.HistoryReadsBack.{history_reads_back}
-use Rattle.redo_history.proofs.laws.history_reads_back.Goals as goal
-
-pub returns : goal.returns
-returns c = history_reads_back

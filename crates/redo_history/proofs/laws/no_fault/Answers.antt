@@ -1,5 +1,0 @@
-use Rattle.redo_history.proofs.NoFault.{no_fault}
-use Rattle.redo_history.proofs.laws.no_fault.Goals as goal
-
-pub returns : goal.returns
-returns c = no_fault

@@ -1,6 +1,0 @@
-use Rattle.redo_model.proofs.Texts.{texts_are_names}
-use Rattle.redo_joint.proofs.Orders.{legal_in_every_order}
-use Rattle.redo_joint.proofs.histories.legal_in_every_order.Goals as goal
-
-pub returns : goal.returns
-returns c = legal_in_every_order texts_are_names

@@ -1,5 +1,0 @@
-use Rattle.redo_joint.proofs.Replayed.{words_replayed}
-use Rattle.redo_joint.proofs.words.records_by_words.Goals as goal
-
-pub returns : goal.returns
-returns c order plan lines law known = words_replayed law plan lines known

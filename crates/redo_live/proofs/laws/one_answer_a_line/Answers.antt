@@ -1,5 +1,0 @@
-use Rattle.redo_live.proofs.OneAnswer.{one_answer}
-use Rattle.redo_live.proofs.laws.one_answer_a_line.Goals as goal
-
-pub returns : goal.returns
-returns c = one_answer

@@ -1,8 +1,0 @@
--- The first bytes are a beginning of the bytes.
-use Rattle.std.proofs.Common.{ℕ, take, drop, sym}
-use Rattle.std.proofs.lemmas.List.{take-append-drop}
-use Rattle.redo_model.specs.Names.{Text}
-use Rattle.redo_log.specs.Operations.{IsPrefix}
-
-pub take_prefix : (count : ℕ) (bytes : Text) → IsPrefix (take count bytes) bytes
-take_prefix count bytes = (drop count bytes, sym (take-append-drop count bytes))

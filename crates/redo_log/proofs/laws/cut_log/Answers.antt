@@ -1,5 +1,0 @@
-use Rattle.redo_log.proofs.CutLogs.{cut_log}
-use Rattle.redo_log.proofs.laws.cut_log.Goals as goal
-
-pub returns : goal.returns
-returns c = cut_log

@@ -1,5 +1,0 @@
-use Rattle.redo_log.proofs.CutLogs.{one_log}
-use Rattle.redo_log.proofs.laws.one_log.Goals as goal
-
-pub returns : goal.returns
-returns c = one_log

@@ -1,5 +1,0 @@
-use Rattle.redo_log.proofs.CutLogs.{one_past}
-use Rattle.redo_log.proofs.laws.one_past.Goals as goal
-
-pub returns : goal.returns
-returns c = one_past

@@ -1,4 +1,0 @@
-pub mod Inside
-pub mod Operations
-pub mod Logs
-pub mod Restores

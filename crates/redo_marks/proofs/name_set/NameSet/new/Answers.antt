@@ -1,5 +1,0 @@
-use Rattle.std.proofs.Common.{rules}
-use Rattle.redo_marks.proofs.name_set.NameSet.new.Goals as goal
-
-pub returns : goal.returns
-returns c = search rules

@@ -1,7 +1,0 @@
-use Rattle.std.proofs.Common.{take}
-use Rattle.redo_marks.specs.Inside.Regions.{EntersDue}
-use Rattle.redo_marks.proofs.walk.derive.Given as goal
-
-abbrev pub invariant-loop-t : goal.invariant-loop-t
-invariant-loop-t g l =
-    EntersDue (g.D.Dependencies.records l.database) (take l.t-index l.names) l.fn.marks l.marks

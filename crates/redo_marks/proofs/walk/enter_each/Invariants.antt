@@ -1,7 +1,0 @@
-use Rattle.std.proofs.Common.{take}
-use Rattle.std.specs.List.{Contains}
-use Rattle.redo_marks.specs.NameSet.{Enters}
-use Rattle.redo_marks.proofs.walk.enter_each.Given as goal
-
-abbrev pub invariant-loop-n : goal.invariant-loop-n
-invariant-loop-n l = Enters (Contains (take l.n-index l.names)) l.fn.marks l.marks

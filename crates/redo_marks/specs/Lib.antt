@@ -1,4 +1,0 @@
-pub mod Bits
-pub mod Inside
-pub mod Memo
-pub mod NameSet

@@ -1,6 +1,0 @@
-use Rattle.redo_model.proofs.Texts.{texts_are_names}
-use Rattle.redo_model.proofs.Unchanging.{unchanging_same}
-use Rattle.redo_model.proofs.changes.unchanging_leaves_all.Goals as goal
-
-pub returns : goal.returns
-returns c = unchanging_same texts_are_names

@@ -1,6 +1,0 @@
-use Rattle.redo_model.proofs.Texts.{texts_are_names}
-use Rattle.redo_model.proofs.Letting.{closing_accepted}
-use Rattle.redo_model.proofs.histories.closing_is_accepted.Goals as goal
-
-pub returns : goal.returns
-returns c = closing_accepted texts_are_names

@@ -1,6 +1,0 @@
-use Rattle.redo_model.proofs.Texts.{texts_are_names}
-use Rattle.redo_model.proofs.Letting.{nothing_held}
-use Rattle.redo_model.proofs.histories.nothing_is_held.Goals as goal
-
-pub returns : goal.returns
-returns c = nothing_held texts_are_names

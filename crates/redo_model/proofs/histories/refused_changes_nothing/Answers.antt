@@ -1,6 +1,0 @@
-use Rattle.redo_model.specs.Names.{texts}
-use Rattle.redo_model.proofs.Refused.{refused_same}
-use Rattle.redo_model.proofs.histories.refused_changes_nothing.Goals as goal
-
-pub returns : goal.returns
-returns c = refused_same texts

@@ -1,9 +1,0 @@
-use Rattle.redo_model.specs.Names.{texts}
-use Rattle.redo_model.proofs.Texts.{texts_are_names}
-use Rattle.redo_model.proofs.AnswersByName.{answers_by_name}
-use Rattle.redo_model.proofs.renaming.answers_by_name.Goals as goal
-
-pub returns : goal.returns
-returns c to order state session command reply law orders within below reply_below =
-    answers_by_name law texts texts_are_names order orders state within session command reply below
-    reply_below

@@ -1,8 +1,0 @@
-use Rattle.redo_model.specs.Names.{texts}
-use Rattle.redo_model.proofs.Texts.{texts_are_names}
-use Rattle.redo_model.proofs.StepsByName.{after_by_name}
-use Rattle.redo_model.proofs.renaming.steps_by_name.Goals as goal
-
-pub returns : goal.returns
-returns c to order state session command law below =
-    after_by_name law texts texts_are_names order state session command below

@@ -1,6 +1,0 @@
-use Rattle.redo_model.proofs.Lists.{same_ascending}
-use Rattle.redo_model.proofs.Texts.{texts_are_names}
-use Rattle.redo_model.proofs.replies.lists_are_unique.Goals as goal
-
-pub returns : goal.returns
-returns c = same_ascending texts_are_names

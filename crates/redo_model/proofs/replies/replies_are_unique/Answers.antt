@@ -1,6 +1,0 @@
-use Rattle.redo_model.proofs.Unique.{one_answer}
-use Rattle.redo_model.proofs.Texts.{texts_are_names}
-use Rattle.redo_model.proofs.replies.replies_are_unique.Goals as goal
-
-pub returns : goal.returns
-returns c = one_answer texts_are_names

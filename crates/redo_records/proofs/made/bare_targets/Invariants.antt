@@ -1,6 +1,0 @@
-use Rattle.std.proofs.Common.{◌≡◌, replicate}
-use Rattle.redo_records.specs.Rows.{bare}
-use Rattle.redo_records.proofs.made.bare_targets.Given as goal
-
-abbrev pub invariant-fill : goal.invariant-fill
-invariant-fill l = l.targets.items ≡ replicate l.counter bare

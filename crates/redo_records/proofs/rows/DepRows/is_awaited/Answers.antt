@@ -1,9 +1,0 @@
-use Rattle.redo_records.specs.Inside.Kept.{has_created}
-use Rattle.redo_records.proofs.Listed.{inverse_some}
-use Rattle.redo_records.proofs.rows.DepRows.is_awaited.Goals as goal
-
-pub returns : goal.returns
-returns c =
-    inverse_some has_created c.self.inside.targets.items c.args.self.now c.args.n
-    c.self.inside.awaited.items c.index.result.now c.has_any.result c.self.view_is c.requires
-    c.index.ensures c.has_any.ensures c.self.invariant.awaits

@@ -1,8 +1,0 @@
-pub mod Meaning
-pub mod Cells
-pub mod Refusals
-pub mod Inside
-pub mod News
-pub mod Numbers
-pub mod Rows
-pub mod Target

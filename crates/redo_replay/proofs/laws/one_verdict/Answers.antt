@@ -1,5 +1,0 @@
-use Rattle.redo_replay.proofs.OneVerdict.{one_verdict}
-use Rattle.redo_replay.proofs.laws.one_verdict.Goals as goal
-
-pub returns : goal.returns
-returns c = one_verdict

@@ -1,5 +1,0 @@
-use Rattle.redo_replay.proofs.OneVerdict.{same_where_legal}
-use Rattle.redo_replay.proofs.laws.same_where_legal.Goals as goal
-
-pub returns : goal.returns
-returns c = same_where_legal

@@ -1,3 +1,0 @@
-pub mod Inside
-pub mod Replays
-pub mod Verdicts

@@ -1,5 +1,0 @@
-use Rattle.redo_replica.proofs.Written.{rows_cleared}
-use Rattle.redo_replica.proofs.laws.block_cleared.Goals as goal
-
-pub returns : goal.returns
-returns c = rows_cleared

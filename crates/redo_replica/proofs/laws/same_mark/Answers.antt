@@ -1,5 +1,0 @@
-use Rattle.redo_replica.proofs.Marks.{mark_once}
-use Rattle.redo_replica.proofs.laws.same_mark.Goals as goal
-
-pub returns : goal.returns
-returns c = mark_once

@@ -1,5 +1,0 @@
-pub mod CompactCells
-pub mod PairRows
-pub mod Replicas
-pub mod Replies
-pub mod Inside

@@ -1,9 +1,0 @@
-use redo_journal::Journal;
-use redo_terms::Line;
-
-/// The result of a run: one history of all sessions, and what each session did.
-#[derive(Debug, Drop)]
-pub struct Outcome {
-    pub history: Vec<Line>,
-    pub journals: Vec<Journal>,
-}

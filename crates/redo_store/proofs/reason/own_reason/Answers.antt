@@ -1,8 +1,0 @@
-use Rattle.std.proofs.Common.{◌∙◌, ap, sym}
-use Rattle.redo_model.specs.State.{is_building}
-use Rattle.redo_records.specs.Meaning.{target_state_of}
-use Rattle.redo_store.proofs.reason.own_reason.Goals as goal
-
-pub returns-in-Building-clause-reason : goal.returns-in-Building-clause-reason
-returns-in-Building-clause-reason c =
-    ap is_building (sym c.state.ensures ∙ ap target_state_of c.in-Building.is)

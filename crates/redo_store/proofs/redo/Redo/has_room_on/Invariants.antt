@@ -1,7 +1,0 @@
-use Rattle.std.proofs.Common.{◌≡◌, true, take}
-use Rattle.std.specs.List.{list_all}
-use Rattle.redo_records.specs.Rows.{room_of}
-use Rattle.redo_store.proofs.redo.Redo.has_room_on.Given as goal
-
-abbrev pub invariant-loop-place : goal.invariant-loop-place
-invariant-loop-place l = list_all (room_of l.self.rows l.t) (take l.place l.names) ≡ true

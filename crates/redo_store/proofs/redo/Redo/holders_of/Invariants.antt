@@ -1,8 +1,0 @@
-use Rattle.std.proofs.Common.{◌≡◌, take}
-use Rattle.std.specs.List.{filter_map}
-use Rattle.redo_store.specs.Tables.{locks_of}
-use Rattle.redo_store.proofs.redo.Redo.holders_of.Given as goal
-
-abbrev pub invariant-loop-t : goal.invariant-loop-t
-invariant-loop-t l =
-    l.sessions.items ≡ filter_map (locks_of l.self).holder (take l.t-index l.names)

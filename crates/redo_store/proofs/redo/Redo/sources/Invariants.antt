@@ -1,9 +1,0 @@
-use Rattle.std.proofs.Common.{◌<◌}
-use Rattle.redo_model.specs.Names.{IsListed, by_number}
-use Rattle.redo_model.specs.OutOfDate.{IsSource}
-use Rattle.redo_store.specs.Tables.{tables_records}
-use Rattle.redo_store.proofs.redo.Redo.sources.Given as goal
-
-abbrev pub invariant-loop-n : goal.invariant-loop-n
-invariant-loop-n l =
-    IsListed by_number (λ n. (n < l.n) × IsSource (tables_records l.fn.self) n) l.names.items

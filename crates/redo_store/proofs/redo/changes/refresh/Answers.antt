@@ -1,4 +1,0 @@
-use Rattle.redo_store.proofs.redo.changes.refresh.Goals as goal
-
-pub correct-requires-clause-right : goal.correct-requires-clause-right
-correct-requires-clause-right c = c.requires.right

@@ -1,5 +1,0 @@
-use Rattle.std.proofs.Common.{rules}
-use Rattle.redo_store.proofs.why.find_if.Goals as goal
-
-pub returns-in_ok-push-clause-found : goal.returns-in_ok-push-clause-found
-returns-in_ok-push-clause-found c = search rules

@@ -1,6 +1,0 @@
-use Rattle.redo_talk.proofs.EndedAll.{dump_is}
-use Rattle.redo_talk.proofs.dumping.dumped.Goals as goal
-
-pub returns : goal.returns
-returns c =
-    dump_is c.args.live.now c.in-Ok.log.items c.in-Ok.ensures.log c.in-Ok.ensures.over

@@ -1,9 +1,0 @@
-use Rattle.redo_talk.specs.Talks.{lines_after}
-use Rattle.redo_talk.proofs.LawfulHistories.{history_text}
-use Rattle.redo_talk.proofs.LawfulTalks.{all_logged}
-use Rattle.redo_talk.proofs.laws.conversation_is_history.Goals as goal
-
-pub returns : goal.returns
-returns c keeping version former rounds rest input input_after done talk few =
-    history_text (lines_after former rounds)
-    (all_logged keeping version former rounds rest input input_after done talk) few

@@ -1,5 +1,0 @@
-pub mod Rounds
-pub mod Logs
-pub mod Talks
-pub mod Causes
-pub mod Inside

@@ -1,3 +1,0 @@
-pub mod Stamp
-pub mod Meaning
-pub mod Inside

@@ -1,6 +1,0 @@
-use Rattle.std.proofs.Common.{All}
-use Rattle.redo_board.specs.Kept.{WorksAt}
-use Rattle.redo_tests_board.proofs.schedules.take_turns.Given as goal
-
-abbrev pub invariant-loop-turn : goal.invariant-loop-turn
-invariant-loop-turn g l = All (WorksAt l.plan l.board) l.workers

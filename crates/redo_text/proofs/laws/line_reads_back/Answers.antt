@@ -1,5 +1,0 @@
-use Rattle.redo_text.proofs.ItemTexts.{line_reads_back}
-use Rattle.redo_text.proofs.laws.line_reads_back.Goals as goal
-
-pub returns : goal.returns
-returns c = line_reads_back

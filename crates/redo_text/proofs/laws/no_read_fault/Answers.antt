@@ -1,5 +1,0 @@
-use Rattle.redo_text.proofs.ScriptSteps.{no_read_fault}
-use Rattle.redo_text.proofs.laws.no_read_fault.Goals as goal
-
-pub returns : goal.returns
-returns c = no_read_fault

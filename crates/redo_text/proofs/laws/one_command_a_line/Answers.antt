@@ -1,5 +1,0 @@
-use Rattle.redo_text.proofs.LineLaws.{one_command}
-use Rattle.redo_text.proofs.laws.one_command_a_line.Goals as goal
-
-pub returns : goal.returns
-returns c = one_command

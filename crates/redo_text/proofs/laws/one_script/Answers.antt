@@ -1,5 +1,0 @@
-use Rattle.redo_text.proofs.ScriptLaws.{one_script}
-use Rattle.redo_text.proofs.laws.one_script.Goals as goal
-
-pub returns : goal.returns
-returns c = one_script

@@ -1,9 +1,0 @@
-use Rattle.std.proofs.Common.{◌≡◌, drop}
-use Rattle.std.specs.Prelude.{bytes_eq, find}
-use Rattle.redo_text.specs.Inside.ReplyReading.{reply_word, all_reply_kinds, reply_kind_named}
-use Rattle.redo_text.proofs.reply_kind.reply_kind_of.Given as goal
-
-abbrev pub invariant-loop-kind : goal.invariant-loop-kind
-invariant-loop-kind l =
-    reply_kind_named l.word
-    ≡ find (λ kind. bytes_eq l.word (reply_word kind)) (drop l.kind-index all_reply_kinds)

@@ -1,7 +1,0 @@
-pub mod Texts
-pub mod Grammar
-pub mod Questions
-pub mod Faults
-pub mod Replies
-pub mod Inside
-pub mod Inquiries

@@ -1,4 +1,0 @@
-pub mod Inside
-pub mod Lines
-pub mod LiveWords
-pub mod Words

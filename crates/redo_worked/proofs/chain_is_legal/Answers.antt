@@ -1,5 +1,0 @@
-use Rattle.redo_worked.proofs.ChainThrough.{chain_legal}
-use Rattle.redo_worked.proofs.chain_is_legal.Goals as goal
-
-pub returns : goal.returns
-returns c = chain_legal

@@ -1,5 +1,0 @@
-use Rattle.redo_worked.proofs.ChangeRows.{change_rows_legal}
-use Rattle.redo_worked.proofs.change_rows_are_legal.Goals as goal
-
-pub returns : goal.returns
-returns c = change_rows_legal

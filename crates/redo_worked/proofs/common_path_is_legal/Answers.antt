@@ -1,5 +1,0 @@
-use Rattle.redo_worked.proofs.CommonPath.{common_path_legal}
-use Rattle.redo_worked.proofs.common_path_is_legal.Goals as goal
-
-pub returns : goal.returns
-returns c = common_path_legal

@@ -1,5 +1,0 @@
-use Rattle.redo_worked.proofs.ContentsAndBuilds.{contents_and_builds_legal}
-use Rattle.redo_worked.proofs.contents_and_builds_are_legal.Goals as goal
-
-pub returns : goal.returns
-returns c = contents_and_builds_legal

@@ -1,5 +1,0 @@
-use Rattle.redo_worked.proofs.CreatedRows.{created_rows_legal}
-use Rattle.redo_worked.proofs.created_rows_are_legal.Goals as goal
-
-pub returns : goal.returns
-returns c = created_rows_legal

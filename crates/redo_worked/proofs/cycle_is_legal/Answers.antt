@@ -1,5 +1,0 @@
-use Rattle.redo_worked.proofs.Cycle.{cycle_legal}
-use Rattle.redo_worked.proofs.cycle_is_legal.Goals as goal
-
-pub returns : goal.returns
-returns c = cycle_legal

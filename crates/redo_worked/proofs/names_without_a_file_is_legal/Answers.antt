@@ -1,5 +1,0 @@
-use Rattle.redo_worked.proofs.NamesWithoutAFile.{names_without_a_file_legal}
-use Rattle.redo_worked.proofs.names_without_a_file_is_legal.Goals as goal
-
-pub returns : goal.returns
-returns c = names_without_a_file_legal

@@ -1,0 +1,7 @@
+use Rattle.std.proofs.Common.{◌≡◌, take}
+use Rattle.std.specs.List.{flat_map}
+use Rattle.redodb_arguments.proofs.ending.gathered.Given as goal
+
+abbrev pub invariant-loop-piece : goal.invariant-loop-piece
+invariant-loop-piece l =
+    l.line.items ≡ flat_map (λ piece. piece.now) (take l.piece-index l.pieces)

@@ -1,0 +1,31 @@
+use Rattle.std.proofs.Common.{rules, ◌≡◌, ◌∙◌, refl, sym, subst, true≢false, false, is_some, List, Option, map, string_bytes, arith}
+use Rattle.std.proofs.lemmas.Grind.{common_steps}
+use Rattle.clap.specs.Words.{Row, Text, app_of}
+use Rattle.redodb_arguments.specs.Words.{Asks, redodb}
+use Rattle.redodb_arguments.proofs.Matched.{by_words, no_fault}
+use Rattle.redodb_arguments.proofs.words.job.Goals as goal
+
+pub returns-in-Ok-Some-clause-asked : goal.returns-in-Ok-Some-clause-asked
+returns-in-Ok-Some-clause-asked c words =
+    let found = by_words redodb (app_of c.in-Ok.command) (map string_bytes c.args.words.now)
+    c.in-Ok-try_get_matches_from.matches refl c.in-Ok.ensures
+    c.in-Ok-try_get_matches_from.ensures.matches in
+    subst (λ (found : Option (Text × List Row)). Asks found c.in-Ok-Some.job) found.1
+    (rw c.in-Ok-Some.field-0-is at c.in-Ok-Some.ensures.asked)
+
+pub returns-in-Ok-Some-clause-sound : goal.returns-in-Ok-Some-clause-sound
+returns-in-Ok-Some-clause-sound c words =
+    no_fault redodb (app_of c.in-Ok.command) (map string_bytes c.args.words.now) refl
+    c.in-Ok.ensures c.in-Ok-try_get_matches_from.ensures.kinds
+
+pub returns-in-Ok-None-clause-only : goal.returns-in-Ok-None-clause-only
+returns-in-Ok-None-clause-only c job asks faultless =
+    let found = by_words redodb (app_of c.in-Ok.command) (map string_bytes c.args.words.now)
+    c.in-Ok-try_get_matches_from.matches refl c.in-Ok.ensures
+    c.in-Ok-try_get_matches_from.ensures.matches in
+    let asked = subst (λ (found : Option (Text × List Row)). Asks found job) (sym found.1) asks in
+    let none : is_some c.in-Ok-None.field-0 ≡ false = search rules in
+    absurd (true≢false (sym (c.in-Ok-None.ensures.only job asked) ∙ none))
+
+pub returns-then-is_empty-clause-sound : goal.returns-then-is_empty-clause-sound
+returns-then-is_empty-clause-sound c = grind (arith, common_steps)

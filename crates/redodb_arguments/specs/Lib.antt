@@ -1,0 +1,4 @@
+pub mod Support
+pub mod Lines
+pub mod LiveWords
+pub mod Words

@@ -1,0 +1,98 @@
+use Rattle.std.proofs.Common.{◌≡◌, ◌≢◌, ℕ, ◌+◌, ◌<◌, length, ◌/◌, arith, refl, sym, ap, ◌∙◌}
+use Rattle.redodb_model.specs.Command.{Unlock}
+use Rattle.redodb_model.specs.Reply.{Okay}
+use Rattle.redodb_model.specs.Placed.{Released}
+use Rattle.redodb_model.specs.Journals.{Numbered}
+use Rattle.redodb_journal.specs.Plans.{script_of}
+use Rattle.redodb_board.specs.Core.{Way, row, free}
+use Rattle.redodb_board.specs.Support.Plays.{free_line}
+use Rattle.redodb_board.specs.Shown.{journal_of}
+use Rattle.redodb_board.specs.Kept.{WorksAt, view_of}
+use Rattle.redodb_board.specs.Outcomes.{Made}
+use Rattle.redodb_board.specs.declared.worker.Worker.{Worker}
+use Rattle.redodb_board.proofs.Steps.{frees_as}
+use Rattle.redodb_board.proofs.NextSteps.{few_words, target_low, own_below, lets_go_by, room_next}
+use Rattle.redodb_board.proofs.Works.{entered, is_entry, claim_goes, claimed}
+use Rattle.redodb_board.proofs.worker.Worker.free.Goals as goal
+use Rattle.redodb_board.proofs.worker.Worker.free.Goals.{After-enter}
+
+pub overflow_add-word : goal.overflow_add-word
+overflow_add-word c = let a = few_words c.args.plan.now c.args.board.now c.requires.belongs.0 in
+    omega arith
+
+pub overflow_add-word-2 : goal.overflow_add-word-2
+overflow_add-word-2 c = let a = few_words c.args.plan.now c.args.board.now c.requires.belongs.0 in
+    omega arith
+
+no-row : (t : ℕ) (w : Way) → w ≡ free t → w ≢ row
+no-row t w e f = absurd (let g : free t ≡ row = sym e ∙ f in cc)
+
+pub fetch_add-found-requires : goal.fetch_add-found-requires
+fetch_add-found-requires c =
+    let p = c.args.plan.now in
+    let w = c.args.self.now in
+    let b = c.requires.belongs.0 in
+    let k = c.requires.belongs.1 in
+    let u : ℕ = c.args.target in
+    let n : Numbered ℕ = record { number = c.args.next.now.number; command = Unlock u } in
+    let low : u < length p.names =
+    target_low p w n u k.works c.requires.command.next refl in (
+      k.table,
+      (let x = b.words in let y = b.rows in omega arith),
+      frees_as p c.args.board.now.table.shared.key c.args.board.now.table.shared.table_id.slots
+          w.seat.id w.session (journal_of p w) (view_of w) w.seat.me.1 b.key k.works.view
+          k.works.session n c.requires.command.next (c.args.board.now.rows + 1 + u) u
+          (ap (λ m. m + 1 + u) b.rows) low c.requires.way,
+    )
+
+-- the worker after its entry
+done : (c : After-enter)
+    → WorksAt c.args.plan.now c.args.board.now c.enter.new.self
+    × Made c.args.plan.now c.args.self.now c.enter.new.self
+done c =
+    let p = c.args.plan.now in
+    let w = c.args.self.now in
+    let k = c.requires.belongs.1 in
+    let u : ℕ = c.args.target in
+    let n : Numbered ℕ = record { number = c.args.next.now.number; command = Unlock u } in
+    let e = c.fetch_add-found.ensures in
+    let found : ℕ = c.fetch_add-found.result in
+    let cap = c.enter.ensures in
+    let w₁ : Worker = record w { seat = c.fetch_add-found.new.seat } in
+    let w' : Worker =
+    record w₁ { entries = c.enter.new.self.entries; own = c.enter.new.self.own } in
+    let goes =
+    claim_goes p c.args.board.now w (view_of w') n u found free_line c.requires.belongs.0 k
+    c.requires.command.next e.2.0 in
+    entered w₁ c.enter.new.self (Unlock u) _ cap
+    (λ v. WorksAt p c.args.board.now v × Made p w v)
+    (claimed p c.args.board.now w w' n Okay (Released u (found / 2 + 1)) k
+    c.requires.command.next goes
+    _ cap.items
+    (is_entry p w n Okay (Released u (found / 2 + 1)) _ c.args.next.now.closing c.requires.command
+    refl c.noted.ensures refl refl)
+    (cap.notes p.names) refl e.0 e.2.2
+    (let m = cap.capacity in omega arith) refl refl refl (no-row u _ c.requires.way) (λ m. refl))
+
+pub returns-clause-works : goal.returns-clause-works
+returns-clause-works c = (done (goal.at.returns-clause-works c).After-enter).0
+
+pub returns-clause-made : goal.returns-clause-made
+returns-clause-made c = (done (goal.at.returns-clause-made c).After-enter).1
+
+pub enter-requires-clause-room : goal.enter-requires-clause-room
+enter-requires-clause-room c =
+    let u : ℕ = c.args.target in
+    let n : Numbered ℕ = record { number = c.args.next.now.number; command = Unlock u } in
+    room_next c.args.plan.now c.args.self.now n c.requires.belongs.1.works c.requires.command.next
+
+pub enter-requires-clause-names : goal.enter-requires-clause-names
+enter-requires-clause-names c =
+    let u : ℕ = c.args.target in
+    let n : Numbered ℕ = record { number = c.args.next.now.number; command = Unlock u } in
+    own_below c.args.plan.now c.args.self.now n c.requires.belongs.1.works c.requires.command.next
+
+pub noted-requires : goal.noted-requires
+noted-requires c =
+    lets_go_by (script_of c.args.plan.now c.args.self.now.session) c.args.next.now.closing
+    c.args.next.now.number (Unlock c.args.target) c.requires.command.told tt

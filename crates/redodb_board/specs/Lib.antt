@@ -1,0 +1,10 @@
+pub mod Core
+pub mod Histories
+pub mod Support
+pub mod Kept
+pub mod Outcomes
+pub mod Plays
+pub mod Rows
+pub mod Rule
+pub mod Shown
+pub mod Views

@@ -1,0 +1,62 @@
+ghost use Rattle.std.specs.Prelude.{◌≡◌, ◌≤◌, ◌++◌, drop, length};
+ghost use Rattle.redodb_c.specs.Calls.{Answers};
+
+use crate::contents::Opened;
+use crate::status::{FAULT, MEMORY, OK, TOO_SMALL};
+use redodb_conversation::{Replied, reply};
+use redodb_live::Withheld;
+use std::alloc::Global;
+
+/// How long an answer is.
+#[repr(C)]
+#[derive(Clone, Copy)]
+pub struct Told {
+    /// How many bytes the answer has, or would have if the buffer is too small.
+    pub size: usize,
+    /// How many of them, from the first on, are to be logged.
+    pub logged: usize,
+}
+
+/// Puts bytes at the beginning of the buffer.
+fn put(bytes: &[u8], room: &mut [u8])
+    requires { length bytes.now ≤ length room.old }
+    ensures { room.new ≡ bytes.now ++ drop (length bytes.now) room.old }
+{
+    room[..bytes.len()].copy_from_slice(bytes);
+}
+
+/// Answers a line into the buffer.
+pub(crate) fn answer(
+    alloc: Global,
+    opened: &mut Opened,
+    line: &[u8],
+    room: &mut [u8],
+    told: &mut Told,
+) -> u32
+    ensures { Answers result opened.old opened.new line.now room.old room.new told.new }
+{
+    let Opened { live, said, logged } = opened;
+    said.clear();
+    logged.clear();
+    match reply(alloc, live, line, room.len(), said, logged) {
+        Ok(replied) => {
+            put(said, room);
+            told.size = said.len();
+            told.logged = logged.len();
+            match replied {
+                Replied::Done => OK,
+                Replied::Fault => FAULT,
+            }
+        }
+        Err(Withheld::TooLong(size)) => {
+            told.size = size;
+            told.logged = 0;
+            TOO_SMALL
+        }
+        Err(Withheld::Unanswered(_)) => {
+            told.size = 0;
+            told.logged = 0;
+            MEMORY
+        }
+    }
+}

@@ -1,0 +1,95 @@
+-- What a conversation comes to when all that was read was answered, or an operation failed.
+use Rattle.std.proofs.Common.{◌≡◌, List, [], ◌++◌, Option, sym, subst, append-nil}
+use Rattle.std.specs.Io.KnownBytes.{Consumes, Keeps}
+use Rattle.std.proofs.KnownBytes.{Consumes-kept}
+use Rattle.redodb_model.specs.Names.{Text}
+use Rattle.redodb_live.specs.Support.LiveState.{LiveState}
+use Rattle.redodb_log.specs.Operations.{Operation}
+use Rattle.redodb_conversation.specs.Logs.{HasNoEnd}
+use Rattle.redodb_conversation.specs.Rounds.{heard_in}
+use Rattle.redodb_conversation.specs.Support.Moments.{Start, IsBrokenOff}
+use Rattle.redodb_conversation.specs.Support.Places.{TalksAt, as_place, idle_place, known_of}
+use Rattle.redodb_conversation.specs.Support.Steps.{Known}
+use Rattle.redodb_conversation.specs.Support.Sending.{IsSendCause}
+use Rattle.redodb_conversation.specs.Support.Talking.{HasAnsweredAll, IsTalkCause}
+use Rattle.redodb_conversation.specs.declared.sending.Unsent.{Unsent}
+use Rattle.redodb_conversation.specs.declared.fault.ServeFault.{ServeFault}
+use Rattle.redodb_conversation.specs.declared.fault.ServeFault.TheVariants.{Memory, Worn, State, Differs, Log, Read, TooLong, Write}
+use Rattle.redodb_conversation.proofs.Responding.{place, same_waiting}
+use Rattle.redodb_conversation.proofs.UnderWay.{heard_more}
+
+module _ (start : Start) (known : Known) (left left' : Option Text) (done : List Operation)
+    (logged said begun : Text)
+    (talk : TalksAt start left (place known done logged said) begun)
+  where
+    -- a read that failed took nothing
+    pub kept_left : Keeps left left' → TalksAt start left' (place known done logged said) begun
+    kept_left same = record {
+      is_start = talk.is_start;
+      sent = talk.sent;
+      kept = talk.kept;
+      steps = talk.steps;
+      lines = talk.lines;
+      heard = Consumes-kept start.left left left' (heard_in (talk.sent ++ talk.kept) ++ begun)
+          talk.heard same;
+      begins = talk.begins;
+      fine = talk.fine;
+      always = talk.always;
+      log = talk.log;
+      disk = talk.disk;
+      to_log = talk.to_log;
+      output = talk.output;
+      to_say = talk.to_say;
+    }
+
+    -- a read gave more
+    pub read_more : (bytes : Text) → Consumes left left' bytes
+        → TalksAt start left' (place known done logged said) (begun ++ bytes)
+    read_more bytes taken =
+        heard_more start (record { known = known; left = left; done = done })
+        (record { said = said; logged = logged }) begun talk left' bytes taken
+
+    -- a read gave nothing
+    pub read_none : Consumes left left' [] → TalksAt start left' (place known done logged said) begun
+    read_none taken =
+        subst (λ t. TalksAt start left' (place known done logged said) t) (append-nil begun)
+        (read_more [] taken)
+
+-- where nothing waits
+module _ (start : Start) (left : Option Text) (live : LiveState) (done : List Operation)
+    (unsent : Unsent) (more : Text) (none_logged : unsent.logged.items ≡ [])
+    (none_said : unsent.said.items ≡ [])
+  where
+    pub none_waiting : TalksAt start left (as_place live done unsent) more
+        → TalksAt start left (idle_place live done) more
+    none_waiting talk =
+        same_waiting start left (known_of live) done unsent.logged.items unsent.said.items [] [] more
+        (sym none_logged) (sym none_said) talk
+
+    pub waiting_again : TalksAt start left (idle_place live done) more
+        → TalksAt start left (as_place live done unsent) more
+    waiting_again talk =
+        same_waiting start left (known_of live) done [] [] unsent.logged.items unsent.said.items more
+        none_logged none_said talk
+
+-- nothing waits, and the line that began has no end
+pub answered_all : (start : Start) (known : Known) (left : Option Text) (done : List Operation)
+    (logged said begun : Text) → logged ≡ [] → said ≡ [] → HasNoEnd begun
+    → TalksAt start left (place known done logged said) begun
+    → HasAnsweredAll start known left done
+answered_all start known left done logged said begun e f free talk =
+    (begun, free, same_waiting start left known done logged said [] [] begun (sym e) (sym f) talk)
+
+-- an operation failed
+pub send_cause_talks : (start : Start) (known : Known) (left : Option Text) (done : List Operation)
+    (fault : ServeFault) → IsSendCause done fault
+    → IsBrokenOff start (record { known = known; left = left; done = done })
+    → IsTalkCause start known left done fault
+send_cause_talks start known left done (Log fault) cause broken = (cause, broken)
+send_cause_talks start known left done Write cause broken = (cause, broken)
+send_cause_talks start known left done Memory cause broken = absurd cause
+send_cause_talks start known left done Worn cause broken = absurd cause
+send_cause_talks start known left done (State line) cause broken = absurd cause
+send_cause_talks start known left done (Differs line) cause broken = absurd cause
+send_cause_talks start known left done Read cause broken = absurd cause
+send_cause_talks start known left done TooLong cause broken = absurd cause

@@ -1,0 +1,5 @@
+pub mod Rounds
+pub mod Logs
+pub mod Talks
+pub mod Causes
+pub mod Support

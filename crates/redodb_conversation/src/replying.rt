@@ -1,0 +1,138 @@
+//! The answer to one line, in this many bytes at most.
+ghost use Rattle.std.specs.Prelude.{◌≡◌, ◌≤◌, ◌+◌, ◌++◌, length, decimal, IfOk, IfErr, OnOk, OnErr};
+ghost use Rattle.redodb_model.specs.Names.{Text};
+ghost use Rattle.redodb_live.specs.Support.AnswerForms.{AnswersInForm};
+ghost use Rattle.redodb_live.specs.Support.LiveState.{IsAsKnown, state_in};
+ghost use Rattle.redodb_live.specs.Support.Told.{TellsNothing};
+ghost use Rattle.redodb_conversation.specs.Rounds.{Asks, fault_text_of};
+ghost use Rattle.redodb_conversation.specs.Support.Places.{known_of};
+ghost use Rattle.redodb_conversation.specs.Support.Replies.{TellsRound, IsPutOffFor, IsUndoneFor, IsUnsaidFor, IsUntoldFor};
+
+use crate::asked::asked;
+use crate::fault::Refusal;
+use crate::request::{Request, read_request};
+use crate::sending::fault_line;
+use redodb_live::{Live, Unanswered, Withheld};
+use redodb_text::Inquiry;
+use std::alloc::Global;
+
+/// How a line was answered.
+#[derive(Clone, Copy, Debug, PartialEq, Eq)]
+pub enum Replied {
+    /// It was done.
+    Done,
+    /// By its fault, which changes nothing.
+    Fault,
+}
+
+/// Answers a session's question about a name, in at most `most` bytes.
+fn ask_within(
+    alloc: Global,
+    live: &mut Live,
+    session: u16,
+    inquiry: Inquiry,
+    name: &[u8],
+    most: usize,
+    said: &mut Vec<u8>,
+) -> Result<(), Withheld>
+    ensures told { OnOk result ((line : Text)
+        × AnswersInForm (state_in live.old) session inquiry name.now line
+        × (said.new.items ≡ said.old.items ++ line)) }
+    ensures fits { OnOk result
+        (length said.new.items ≤ length said.old.items + most) }
+    ensures cause { IfErr result
+        (IsUntoldFor (state_in live.old) session inquiry name.now most) }
+    ensures known { IsAsKnown live.old live.new }
+    ensures untold { OnErr result (said.new.items ≡ said.old.items) }
+{
+    let before = said.len();
+    live.ask(alloc, session, inquiry, name, said)?;
+    let size = said.len() - before;
+    if size > most {
+        said.truncate(before);
+        return Err(Withheld::TooLong(size));
+    }
+    Ok(())
+}
+
+/// Does what a session asks, if the answer has at most `most` bytes.
+fn respond_within(
+    alloc: Global,
+    live: &mut Live,
+    session: u16,
+    text: &[u8],
+    most: usize,
+    said: &mut Vec<u8>,
+    logged: &mut Vec<u8>,
+) -> Result<(), Withheld>
+    ensures told { OnOk result ((heard : Text) → Asks heard session text.now
+        → TellsRound Replied.Done (known_of live.old) (known_of live.new) heard
+        said.old.items said.new.items logged.old.items logged.new.items) }
+    ensures fits { OnOk result
+        (length said.new.items ≤ length said.old.items + most) }
+    ensures cause { IfErr result (IsUndoneFor live.old session text.now most) }
+    ensures known { OnErr result (IsAsKnown live.old live.new) }
+    ensures untold { OnErr result
+        (TellsNothing said.old.items said.new.items logged.old.items logged.new.items) }
+{
+    match read_request(text) {
+        Ok(Request::End) => live.end_within(alloc, session, most, said, logged),
+        Ok(Request::Names) => live.tell_names(alloc, session, most, said),
+        Ok(Request::Inquiry(inquiry, name)) => {
+            ask_within(alloc, live, session, inquiry, name, most, said)
+        }
+        Ok(Request::Command) => live.answer_within(alloc, session, text, most, said, logged),
+        Err(fault) => Err(Withheld::Unanswered(Unanswered::Fault(fault))),
+    }
+}
+
+/// Answers a fault in at most `most` bytes.
+fn refuse_within(fault: Refusal, most: usize, said: &mut Vec<u8>) -> Result<Replied, Withheld>
+    requires { length fault.word.now ≤ 20 }
+    ensures told { OnOk result (said.new.items
+        ≡ said.old.items ++ fault_text_of (decimal fault.number) fault.word.now) }
+    ensures fits { OnOk result
+        (length said.new.items ≤ length said.old.items + most) }
+    ensures fault { IfOk result (λ replied. replied ≡ Replied.Fault) }
+    ensures cause { IfErr result
+        (IsUnsaidFor (fault_text_of (decimal fault.number) fault.word.now) most) }
+    ensures untold { OnErr result (said.new.items ≡ said.old.items) }
+{
+    let line = fault_line(fault);
+    let size = line.len();
+    if size > most {
+        return Err(Withheld::TooLong(size));
+    }
+    said.extend_from_slice(&line)?;
+    Ok(Replied::Fault)
+}
+
+/// Answers a line, without its LF, as a conversation does, if the answer has at most `most` bytes. If it has more,
+/// nothing is done, and the caller can give the same line again with a greater `most`.
+pub fn reply(
+    alloc: Global,
+    live: &mut Live,
+    line: &[u8],
+    most: usize,
+    said: &mut Vec<u8>,
+    logged: &mut Vec<u8>,
+) -> Result<Replied, Withheld>
+    ensures told { IfOk result (λ replied. TellsRound replied
+        (known_of live.old) (known_of live.new) line.now
+        said.old.items said.new.items logged.old.items logged.new.items) }
+    ensures fits { OnOk result
+        (length said.new.items ≤ length said.old.items + most) }
+    ensures cause { IfErr result (IsPutOffFor (known_of live.old) line.now most) }
+    ensures known { OnErr result (IsAsKnown live.old live.new) }
+    ensures untold { OnErr result
+        (TellsNothing said.old.items said.new.items logged.old.items logged.new.items) }
+{
+    let Some((session, text)) = asked(line) else {
+        return refuse_within(Refusal::no_session(), most, said);
+    };
+    match respond_within(alloc, live, session, text, most, said, logged) {
+        Ok(()) => Ok(Replied::Done),
+        Err(Withheld::Unanswered(why)) => refuse_within(Refusal::of(session, why), most, said),
+        Err(Withheld::TooLong(size)) => Err(Withheld::TooLong(size)),
+    }
+}

@@ -1,0 +1,145 @@
+ghost use Rattle.std.specs.Prelude.{◌≡◌, ◌⊎◌, ◌+◌, ◌≤◌, ◌++◌, [], OnOk, OnErr, IfErr, decimal, length};
+ghost use Rattle.redodb_conversation.specs.Rounds.{fault_text_of};
+ghost use Rattle.redodb_conversation.specs.Support.Sending.{IsKeptBack, IsSent, IsSentInPart, IsToldInPart, IsSendCause, sent_after};
+
+use crate::fault::{Refusal, ServeFault};
+use arrayvec::ArrayVec;
+use itoa::Buffer;
+use redodb_log::Devices;
+use std::alloc::Global;
+
+/// The line of a fault: a number of five digits, ` fault `, the longest word and an LF fit in it.
+pub(crate) type FaultLine = ArrayVec<u8, 40>;
+
+/// More bytes than these are sent without waiting for more.
+const MANY: usize = 65_536;
+
+/// The answers that aren't sent yet, and their log lines.
+#[derive(Drop)]
+pub(crate) struct Unsent {
+    pub said: Vec<u8>,
+    pub logged: Vec<u8>,
+    /// How many bytes came to the log since these were counted last.
+    pub appended: usize,
+}
+
+impl Unsent {
+    /// Nothing. Allocates nothing.
+    pub fn new(alloc: Global) -> Unsent
+        ensures said { result.said.items ≡ [] }
+        ensures logged { result.logged.items ≡ [] }
+    {
+        Unsent {
+            said: Vec::new(alloc),
+            logged: Vec::new(alloc),
+            appended: 0,
+        }
+    }
+
+    pub fn is_much(&self) -> bool {
+        self.said.len() > MANY || self.logged.len() > MANY
+    }
+
+    fn clear(&mut self)
+        ensures said { self.new.said.items ≡ [] }
+        ensures logged { self.new.logged.items ≡ [] }
+    {
+        self.said.clear();
+        self.logged.clear();
+    }
+}
+
+/// Appends bytes to the log, and then writes others to the output; between these the log is synced, if that is asked.
+/// Allocates nothing.
+fn put<D: Devices>(
+    sync: bool,
+    logged: &[u8],
+    said: &[u8],
+    devices: &mut D,
+) -> Result<(), ServeFault>
+    ensures sent { OnOk result (D.history devices.new
+        ≡ sent_after sync logged.now said.now (D.history devices.old)) }
+    ensures part { OnErr result (IsSentInPart sync logged.now said.now
+        (D.history devices.old) (D.history devices.new)) }
+    ensures cause { IfErr result (IsSendCause (D.history devices.new)) }
+{
+    devices.append(logged)?;
+    if sync {
+        devices.sync()?;
+    }
+    devices.write(said)?;
+    Ok(())
+}
+
+/// Sends what waits. Allocates nothing.
+pub(crate) fn send<D: Devices>(
+    sync: bool,
+    unsent: &mut Unsent,
+    devices: &mut D,
+) -> Result<(), ServeFault>
+    ensures sent { OnOk result (D.history devices.new ≡ sent_after sync
+        unsent.old.logged.items unsent.old.said.items (D.history devices.old)) }
+    ensures none_said { OnOk result (unsent.new.said.items ≡ []) }
+    ensures none_logged { OnOk result (unsent.new.logged.items ≡ []) }
+    ensures part { OnErr result (IsSentInPart sync
+        unsent.old.logged.items unsent.old.said.items (D.history devices.old)
+        (D.history devices.new)) }
+    ensures cause { IfErr result (IsSendCause (D.history devices.new)) }
+{
+    put(sync, &unsent.logged, &unsent.said, devices)?;
+    unsent.appended = unsent.appended.saturating_add(unsent.logged.len());
+    unsent.clear();
+    Ok(())
+}
+
+/// Appends the bytes. Allocates nothing.
+fn add(line: &mut FaultLine, bytes: &[u8])
+    requires { length line.old.items + length bytes.now ≤ 40 }
+    ensures { line.new.items ≡ line.old.items ++ bytes.now }
+{
+    let _ = line.try_extend_from_slice(bytes);
+}
+
+/// The line of a fault. Allocates nothing.
+pub(crate) fn fault_line(fault: Refusal) -> FaultLine
+    requires { length fault.word.now ≤ 20 }
+    ensures { result.items ≡ fault_text_of (decimal fault.number) fault.word.now }
+{
+    let mut digits = Buffer::new();
+    let mut line = ArrayVec::new();
+    add(&mut line, digits.format(fault.number).as_bytes());
+    add(&mut line, b" fault ");
+    add(&mut line, fault.word.as_bytes());
+    add(&mut line, b"\n");
+    line
+}
+
+/// Answers a fault: appends it to what waits if memory suffices, else writes it after that was sent.
+pub(crate) fn tell_fault<D: Devices>(
+    fault: Refusal,
+    sync: bool,
+    unsent: &mut Unsent,
+    devices: &mut D,
+) -> Result<(), ServeFault>
+    requires { length fault.word.now ≤ 20 }
+    ensures told { OnOk result (IsKeptBack (D.history devices.old) (D.history devices.new)
+        unsent.old.logged.items unsent.new.logged.items
+        unsent.old.said.items unsent.new.said.items
+        (fault_text_of (decimal fault.number) fault.word.now)
+        ⊎ IsSent sync (D.history devices.old) (D.history devices.new)
+        unsent.old.logged.items unsent.new.logged.items
+        unsent.old.said.items unsent.new.said.items
+        (fault_text_of (decimal fault.number) fault.word.now)) }
+    ensures part { OnErr result (IsToldInPart sync
+        unsent.old.logged.items unsent.old.said.items
+        (fault_text_of (decimal fault.number) fault.word.now)
+        (D.history devices.old) (D.history devices.new)) }
+    ensures cause { IfErr result (IsSendCause (D.history devices.new)) }
+{
+    let line = fault_line(fault);
+    if unsent.said.extend_from_slice(&line).is_ok() {
+        return Ok(());
+    }
+    send(sync, unsent, devices)?;
+    put(sync, &[], &line, devices)
+}

@@ -1,0 +1,11 @@
+use Rattle.redodb_database.proofs.Refreshing.{cell_refreshed, due_by_cell}
+use Rattle.redodb_database.proofs.redo.Redo.failed.Goals as goal
+
+pub refresh-requires-clause-right : goal.refresh-requires-clause-right
+refresh-requires-clause-right c =
+    due_by_cell c.self.invariant c.args.t _ c.failed.ensures
+
+pub invariant_of-self : goal.invariant_of-self
+invariant_of-self c =
+    cell_refreshed c.self.invariant c.args.t _ c.failed.ensures
+    (c.self.invariant.tables.few_builds c.args.t) c.refresh.ensures.count c.refresh.ensures.right

@@ -1,0 +1,4 @@
+pub mod Pairs
+pub mod Steps
+pub mod Graphs
+pub mod Support

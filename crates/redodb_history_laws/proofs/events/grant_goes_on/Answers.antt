@@ -1,0 +1,6 @@
+use Rattle.redodb_model.proofs.Texts.{texts_are_names}
+use Rattle.redodb_history_laws.proofs.EndMore.{grant_event}
+use Rattle.redodb_history_laws.proofs.events.grant_goes_on.Goals as goal
+
+pub returns : goal.returns
+returns c = grant_event texts_are_names

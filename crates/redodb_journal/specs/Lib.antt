@@ -1,0 +1,5 @@
+pub mod Holds
+pub mod Support
+pub mod Journals
+pub mod Numbers
+pub mod Plans

@@ -1,0 +1,266 @@
+-- The line of the answer answers a session's command.
+use Rattle.std.proofs.Common.{◌≡◌, ◌+◌, ◌*◌, ◌^◌, ◌<◌, ◌⊎◌, inl, inr, ℕ, Bool, cond, List, [], ◌∷◌, ◌++◌, refl, sym, ap, ◌∙◌, subst, length}
+use Rattle.std.specs.Ordering.{nat_cmp}
+use Rattle.redodb_names.specs.Support.Names.{AreNames}
+use Rattle.redodb_model.specs.Names.{Text, texts, text_at, by_number, by_text}
+use Rattle.redodb_model.specs.State.{State}
+use Rattle.redodb_model.specs.Command.{Command}
+use Rattle.redodb_model.specs.Step.{Answers, after}
+use Rattle.redodb_model.specs.Changes.{changes}
+use Rattle.redodb_model.specs.Renaming.{IsBelow, named_command, named_reply}
+use Rattle.redodb_model.specs.Support.Renaming.{named_state, numbering}
+use Rattle.redodb_model.proofs.StepsByName.{after_by_name}
+use Rattle.redodb_model.proofs.Texts.{texts_are_names}
+use Rattle.redodb_commands.specs.Meaning.{command_of, reply_of, line_at}
+use Rattle.redodb_commands.specs.declared.reply.Line.{Line}
+use Rattle.redodb_commands.specs.declared.reply.Reply.{Reply}
+use Rattle.redodb_text.specs.Grammar.{IsCommandLine, AddsNames}
+use Rattle.redodb_database.specs.Tables.{Tables, state_of, tables_records, calls_of}
+use Rattle.redodb_live.specs.Support.Answered.{logged_text}
+use Rattle.redodb_live.specs.Support.LiveState.{LiveState, state_in, calls_in, IsSameDatabase}
+use Rattle.redodb_live.specs.Support.Kept.{IsKept}
+use Rattle.redodb_live.specs.Support.Told.{IsTold, IsObeyed, AnswersText, IsUnansweredFor}
+use Rattle.redodb_live.specs.Support.Withheld.{WouldObey, IsUnobeyedFor, IsWithheldFor}
+use Rattle.redodb_live.specs.declared.fault.Unanswered.TheVariants.{Memory}
+use Rattle.redodb_live.specs.declared.fault.Withheld.{Withheld}
+use Rattle.redodb_live.specs.declared.fault.Withheld.TheVariants.{Unanswered, TooLong}
+use Rattle.redodb_live.proofs.Answering.{renaming, now_answers}
+use Rattle.redodb_live.proofs.Changing.{changes_by_name}
+use Rattle.redodb_live.proofs.Keeping.{IsKept-after}
+
+before : (names : List Text) (tables : Tables) (old : LiveState) → names ≡ old.names
+    → state_of tables ≡ state_of old.tables
+    → named_state (numbering names) (state_of tables) ≡ state_in old
+before names tables old old_names old_state =
+    ap (named_state (numbering names)) old_state
+    ∙ ap (λ (ns : List Text). named_state (numbering ns) (state_of old.tables)) old_names
+
+module _ (names : List Text) (are : AreNames names) (tables : Tables)
+    (kept : IsKept names (state_of tables) (calls_of tables)) (session : ℕ) (command : Command ℕ)
+    (below : IsBelow (length names) command) (told : Line) (reply : Reply)
+    (text : Text)
+    (is : IsTold (record { names = names; tables = tables }) session command told reply text)
+  where
+    asked_below : IsBelow (length names) (command_of told.command)
+    asked_below = subst (IsBelow (length names)) (sym is.command_is) below
+
+    told_answers : Answers texts (named_state (numbering names) (state_of tables)) session
+        (named_command (text_at names) command)
+        (named_reply (text_at names) (reply_of told.reply))
+    told_answers =
+        now_answers names are tables kept.within session command below (reply_of reply)
+        (reply_of told.reply) is.answers is.sorted
+
+    told_changes : changes (named_state (numbering names) (state_of tables)).records
+        (line_at names told).command (line_at names told).reply
+        ≡ changes (tables_records tables) (command_of told.command) (reply_of reply)
+    told_changes =
+        changes_by_name (by_text names).order names are (tables_records tables)
+        (reply_of reply) (reply_of told.reply) is.sorted
+        (command_of told.command) asked_below
+
+    module _ (old : LiveState) (old_names : names ≡ old.names)
+        (old_state : state_of tables ≡ state_of old.tables)
+      where
+        told_command : (line_at names told).command
+            ≡ named_command (text_at old.names) command
+        told_command =
+            ap (named_command (text_at names)) is.command_is
+            ∙ ap (λ (ns : List Text). named_command (text_at ns) command) old_names
+
+        told_there : Answers texts (state_in old) session (line_at names told).command
+            (line_at names told).reply
+        told_there =
+            let line = line_at names told in
+            subst (λ (st : State Text). Answers texts st session line.command line.reply)
+            (before names tables old old_names old_state)
+            (subst (λ (asked : Command ℕ). Answers texts
+            (named_state (numbering names) (state_of tables)) session
+            (named_command (text_at names) asked) line.reply) (sym is.command_is) told_answers)
+
+        pub would_obey : WouldObey old session command (length text)
+        would_obey = record {
+          line = line_at names told;
+          session_is = is.session_is;
+          command_is = told_command;
+          answers = told_there;
+          size_is = ap length is.text_is;
+        }
+
+    module _ (next : Tables)
+        (steps : state_of next
+        ≡ after by_number (state_of tables) session (command_of told.command))
+        (counted : calls_of next ≡ calls_of tables + 1)
+      where
+        same_step : state_of next ≡ after by_number (state_of tables) session command
+        same_step =
+            steps ∙ ap (after by_number (state_of tables) session) is.command_is
+
+        pub kept_after : calls_of tables + 1 + 2 * length names < 2 ^ 32
+            → IsKept names (state_of next) (calls_of next)
+        kept_after left =
+            subst (λ (st : State ℕ). IsKept names st (calls_of next)) (sym same_step)
+            (subst (IsKept names (after by_number (state_of tables) session command)) (sym counted)
+            (IsKept-after names are nat_cmp (state_of tables) session command
+            (named_reply (text_at names) (reply_of told.reply)) (calls_of tables) left below
+            kept told_answers))
+
+        pub obeyed : (old : LiveState) (said said_after logged logged_after : Text) (b : Bool)
+            → names ≡ old.names → state_of tables ≡ state_of old.tables
+            → calls_of tables ≡ calls_in old
+            → b ≡ changes (tables_records tables) (command_of told.command)
+            (reply_of reply)
+            → said_after ≡ said ++ text
+            → logged_after ≡ logged ++ cond b text []
+            → IsObeyed old (record { names = names; tables = next }) session command said said_after
+            logged logged_after
+        obeyed old said said_after logged logged_after b old_names old_state old_calls changing
+            says logs =
+            let line = line_at names told in
+            let same = before names tables old old_names old_state in
+            let is_changing : b ≡ changes (state_in old).records line.command line.reply =
+            changing ∙ sym told_changes
+            ∙ ap (λ (st : State Text). changes st.records line.command line.reply) same in
+            let logged_is : cond b text [] ≡ logged_text (state_in old) line =
+            ap (λ (w : Bool). cond w text []) is_changing
+            ∙ ap (λ (t : Text). cond (changes (state_in old).records line.command line.reply) t [])
+            is.text_is in
+            record {
+              line = line;
+              session_is = is.session_is;
+              command_is = told_command old old_names old_state;
+              answers = told_there old old_names old_state;
+              after_is = ap (named_state (numbering names)) steps
+                  ∙ after_by_name (renaming names are) texts texts_are_names nat_cmp
+                  (state_of tables) session (command_of told.command) asked_below
+                  ∙ ap (λ (st : State Text). after texts st session line.command) same;
+              told = record {
+                says = says ∙ ap (λ (t : Text). said ++ t) is.text_is;
+                logs = logs ∙ ap (λ (t : Text). logged ++ t) logged_is;
+                calls = counted ∙ ap (λ (n : ℕ). n + 1) old_calls;
+              };
+            }
+
+-- why a text of at most so many bytes wasn't appended
+abbrev pub IsUntoldFor : Text → ℕ → Withheld → Type 0
+IsUntoldFor text most why =
+    (why ≡ Unanswered Memory) ⊎ ((why ≡ TooLong (length text)) × (most < length text))
+
+-- then its command isn't obeyed
+pub untold : (old : LiveState) (session : ℕ) (command : Command ℕ) (most : ℕ) (why : Withheld)
+    (text : Text) → WouldObey old session command (length text) → IsUntoldFor text most why
+    → IsUnobeyedFor old session command most why
+untold old session command most why text would (inl e) =
+    subst (IsUnobeyedFor old session command most) (sym e) refl
+untold old session command most why text would (inr (e, more)) =
+    subst (IsUnobeyedFor old session command most) (sym e) (more, would)
+
+module _ (old mid : LiveState) (names : mid.names ≡ old.names) (same : IsSameDatabase old mid) where
+  same_state : state_in mid ≡ state_in old
+  same_state = before mid.names mid.tables old names same.state
+
+  -- the same for a database that knew the same
+  pub obeyed_before : (new : LiveState) (session asking : ℕ) (command asked : Command ℕ)
+      (said said_after logged logged_after : Text) → asking ≡ session → asked ≡ command
+      → IsObeyed mid new asking asked said said_after logged logged_after
+      → IsObeyed old new session command said said_after logged logged_after
+  obeyed_before new session asking command asked said said_after logged logged_after session_is
+      command_is obeys =
+      let line = obeys.line in
+      subst (λ (s : ℕ). IsObeyed old new s command said said_after logged logged_after) session_is
+      (subst (λ (k : Command ℕ). IsObeyed old new asking k said said_after logged logged_after)
+      command_is record {
+        line = line;
+        session_is = obeys.session_is;
+        command_is = obeys.command_is
+            ∙ ap (λ (ns : List Text). named_command (text_at ns) asked) names;
+        answers = subst (λ (st : State Text). Answers texts st asking line.command line.reply)
+            same_state obeys.answers;
+        after_is = obeys.after_is
+            ∙ ap (λ (st : State Text). after texts st asking line.command) same_state;
+        told = record {
+          says = obeys.told.says;
+          logs = obeys.told.logs
+              ∙ ap (λ (st : State Text). logged ++ logged_text st line) same_state;
+          calls = obeys.told.calls ∙ ap (λ (n : ℕ). n + 1) same.calls;
+        };
+      })
+
+  pub unobeyed_before : (session asking : ℕ) (command asked : Command ℕ) (most : ℕ)
+      (why : Withheld) → asking ≡ session → asked ≡ command
+      → IsUnobeyedFor mid asking asked most why → IsUnobeyedFor old session command most why
+  unobeyed_before session asking command asked most (Unanswered why) session_is command_is e = e
+  unobeyed_before session asking command asked most (TooLong size) session_is command_is
+      (more, would) =
+      let line = would.line in (
+        more,
+        subst (λ (s : ℕ). WouldObey old s command size) session_is
+            (subst (λ (k : Command ℕ). WouldObey old asking k size) command_is record {
+              line = line;
+              session_is = would.session_is;
+              command_is = would.command_is
+                  ∙ ap (λ (ns : List Text). named_command (text_at ns) asked) names;
+              answers = subst
+                  (λ (st : State Text). Answers texts st asking line.command line.reply)
+                  same_state would.answers;
+              size_is = would.size_is;
+            }),
+      )
+
+-- and the text that was read, if the names before are a prefix of these
+pub answered : (old mid new : LiveState) (session : ℕ) (text : Text) (command : Command ℕ)
+    (said said_after logged logged_after : Text) → state_in mid ≡ state_in old
+    → calls_in mid ≡ calls_in old → new.names ≡ mid.names
+    → IsCommandLine text (named_command (text_at mid.names) command)
+    → AddsNames 16777216 old.names (named_command (text_at mid.names) command ∷ []) mid.names
+    → IsObeyed mid new session command said said_after logged logged_after
+    → AnswersText old new session text said said_after logged logged_after
+answered old mid new session text command said said_after logged logged_after same calls names
+    is_line adds obeys =
+    let line = obeys.line in
+    record {
+      line = line;
+      is = record {
+        session_is = obeys.session_is;
+        said = subst (IsCommandLine text) (sym obeys.command_is) is_line;
+        named = subst (λ (ns : List Text). AddsNames 16777216 old.names (line.command ∷ []) ns)
+            (sym names)
+            (subst (λ (asked : Command Text). AddsNames 16777216 old.names (asked ∷ []) mid.names)
+            (sym obeys.command_is) adds);
+        answers = subst (λ (st : State Text). Answers texts st session line.command line.reply) same
+            obeys.answers;
+        after_is = obeys.after_is
+            ∙ ap (λ (st : State Text). after texts st session line.command) same;
+      };
+      told = record {
+        says = obeys.told.says;
+        logs = obeys.told.logs
+            ∙ ap (λ (st : State Text). logged ++ logged_text st line) same;
+        calls = obeys.told.calls ∙ ap (λ (n : ℕ). n + 1) calls;
+      };
+    }
+
+-- what refuses the command refuses the text
+pub withheld : (old mid : LiveState) (session : ℕ) (text : Text) (command : Command ℕ)
+    (most : ℕ) (why : Withheld) → state_in mid ≡ state_in old
+    → IsCommandLine text (named_command (text_at mid.names) command)
+    → AddsNames 16777216 old.names (named_command (text_at mid.names) command ∷ []) mid.names
+    → IsUnobeyedFor mid session command most why → IsWithheldFor old session text most why
+withheld old mid session text command most (Unanswered why) same is_line adds e =
+    subst (IsUnansweredFor old text) (sym e) tt
+withheld old mid session text command most (TooLong size) same is_line adds (more, would) =
+    let line = would.line in (
+      more,
+      record {
+        line = line;
+        session_is = would.session_is;
+        said = subst (IsCommandLine text) (sym would.command_is) is_line;
+        names_after = mid.names;
+        named = subst
+            (λ (asked : Command Text). AddsNames 16777216 old.names (asked ∷ []) mid.names)
+            (sym would.command_is) adds;
+        answers = subst (λ (st : State Text). Answers texts st session line.command line.reply) same
+            would.answers;
+        size_is = would.size_is;
+      },
+    )

@@ -1,0 +1,80 @@
+//! What is known of all names, in one line. Looking changes nothing.
+ghost use Rattle.std.specs.Prelude.{◌≡◌, ◌<◌, ◌≤◌, ◌+◌, ◌++◌, length, IfOk, IfErr, OnOk, OnErr};
+ghost use Rattle.std.specs.List.{flat_map};
+ghost use Rattle.redodb_model.specs.Names.{text_at};
+ghost use Rattle.redodb_text.specs.Texts.{after_space};
+ghost use Rattle.redodb_live.specs.Answers.{known_words, names_line};
+ghost use Rattle.redodb_live.specs.Support.LiveState.{state_in};
+ghost use Rattle.redodb_live.specs.Support.Withheld.{IsUntoldFor};
+
+use crate::asked::put_count;
+use crate::fault::Withheld;
+use crate::known::put_cell;
+use crate::live::Live;
+use redodb_history::put_number;
+use redodb_text::put_word;
+use std::alloc::{AllocError, Global};
+
+impl Live {
+    /// Tells a session what is known of all names but rows and locks: appends a line to `said`, if that has at most
+    /// `most` bytes.
+    pub fn tell_names(
+        &self,
+        alloc: Global,
+        session: u16,
+        most: usize,
+        said: &mut Vec<u8>,
+    ) -> Result<(), Withheld>
+        ensures told { OnOk result (said.new.items
+            ≡ said.old.items ++ names_line session self.now.names (state_in self.now)) }
+        ensures fits { OnOk result
+            (length said.new.items ≤ length said.old.items + most) }
+        ensures cause { IfErr result
+            (IsUntoldFor (names_line session self.now.names (state_in self.now)) most) }
+        ensures untold { OnErr result (said.new.items ≡ said.old.items) }
+    {
+        let line = self.names_told(alloc, session)?;
+        let size = line.len();
+        if size > most {
+            return Err(Withheld::TooLong(size));
+        }
+        said.extend_from_slice(&line)?;
+        Ok(())
+    }
+
+    /// The line.
+    fn names_told(&self, alloc: Global, session: u16) -> Result<Vec<u8>, AllocError>
+        ensures { IfOk result
+            (λ line. line.items ≡ names_line session self.now.names (state_in self.now)) }
+    {
+        let mut line = Vec::new(alloc);
+        put_number(&mut line, session as usize + 1)?;
+        put_word(&mut line, b"names")?;
+        put_word(&mut line, b"=>")?;
+        put_count(&mut line, self.names.len() as usize)?;
+        self.put_all(&mut line)?;
+        line.push(b'\n')?;
+        Ok(line)
+    }
+
+    /// Writes what is known of each name, in the order of their numbers.
+    fn put_all(&self, line: &mut Vec<u8>) -> Result<(), AllocError>
+        ensures { OnOk result (line.new.items ≡ line.old.items
+            ++ flat_map after_space (flat_map (known_words (state_in self.now)) self.now.names)) }
+    {
+        for n in 0..self.names.len() {
+            self.put_known(n, line)?;
+        }
+        Ok(())
+    }
+
+    /// Writes what is known of the name with this number.
+    fn put_known(&self, n: u32, line: &mut Vec<u8>) -> Result<(), AllocError>
+        requires { n < length self.now.names }
+        ensures { OnOk result (line.new.items ≡ line.old.items
+            ++ flat_map after_space (known_words (state_in self.now) (text_at self.now.names n))) }
+    {
+        let cell = self.cell(n);
+        put_cell(line, self.names.text(n), &cell)
+    }
+}

@@ -1,0 +1,104 @@
+ghost use Rattle.std.specs.Prelude.{◌≡◌, ◌<◌, ◌≤◌, ◌⊎◌, ◌++◌, [], length, if◌then◌else◌, IfOk, IfErr, OnOk, OnErr};
+ghost use Rattle.redodb_model.specs.Renaming.{IsLineBelow};
+ghost use Rattle.redodb_model.specs.Names.{by_text};
+ghost use Rattle.redodb_commands.specs.Meaning.{command_of, reply_of, line_of, line_at};
+ghost use Rattle.redodb_history.specs.Histories.{line_text_of};
+ghost use Rattle.redodb_live.specs.Support.Ordered.{IsSortedReply};
+ghost use Rattle.redodb_live.specs.Support.Told.{TellsNothing};
+ghost use Rattle.redodb_live.specs.declared.fault.Unanswered.TheVariants.{Memory};
+ghost use Rattle.redodb_live.specs.declared.fault.Withheld.TheVariants.{Unanswered, TooLong};
+
+use crate::fault::Withheld;
+use crate::ordering::ordered;
+use redodb_commands::{Command, Line, Reply};
+use redodb_history::put_line;
+use redodb_names::Names;
+use std::alloc::{AllocError, Global};
+
+/// The text if `wanted`, else nothing.
+pub(crate) fn text_if(wanted: bool, text: &[u8]) -> &[u8]
+    ensures { result.now ≡ (if wanted then text.now else []) }
+{
+    if wanted { text } else { &[] }
+}
+
+/// The line of a command that got this reply; its list of names is in the order of their texts.
+pub(crate) fn answered(
+    alloc: Global,
+    session: u16,
+    command: Command,
+    reply: &Reply,
+    names: &Names,
+) -> Result<Line, AllocError>
+    ensures session { IfOk result (λ line. line.session ≡ session) }
+    ensures command { IfOk result (λ line. command_of line.command ≡ command_of command) }
+    ensures reply { IfOk result (λ line. IsSortedReply (by_text names.now).order
+        (reply_of reply.now) (reply_of line.reply)) }
+{
+    let copy = reply.copy(alloc)?;
+    Ok(Line {
+        session,
+        command,
+        reply: ordered(names, copy),
+    })
+}
+
+/// The line of a history, with its LF, in the memory of an older one.
+pub(crate) fn line_text(
+    alloc: Global,
+    line: &Line,
+    names: &Names,
+    mut text: Vec<u8>,
+) -> Result<Vec<u8>, AllocError>
+    requires { IsLineBelow (length names.now) (line_of line.now) }
+    ensures { IfOk result (λ text. text.items ≡ line_text_of (line_at names.now line.now)) }
+{
+    text.clear();
+    put_line(alloc, &mut text, line, names)?;
+    Ok(text)
+}
+
+/// Appends one text to `said` and another to `logged`, or neither.
+pub(crate) fn tell(
+    said: &mut Vec<u8>,
+    text: &[u8],
+    logged: &mut Vec<u8>,
+    kept: &[u8],
+) -> Result<(), AllocError>
+    ensures said { OnOk result (said.new.items ≡ said.old.items ++ text.now) }
+    ensures logged { OnOk result (logged.new.items ≡ logged.old.items ++ kept.now) }
+    ensures err { OnErr result
+        (TellsNothing said.old.items said.new.items logged.old.items logged.new.items) }
+{
+    let before = said.len();
+    said.extend_from_slice(text)?;
+    if let Err(refused) = logged.extend_from_slice(kept) {
+        said.truncate(before);
+        return Err(refused);
+    }
+    Ok(())
+}
+
+/// Appends one text of at most `most` bytes to `said` and another to `logged`, or neither.
+pub(crate) fn tell_within(
+    said: &mut Vec<u8>,
+    text: &[u8],
+    most: usize,
+    logged: &mut Vec<u8>,
+    kept: &[u8],
+) -> Result<(), Withheld>
+    ensures said { OnOk result (said.new.items ≡ said.old.items ++ text.now) }
+    ensures logged { OnOk result (logged.new.items ≡ logged.old.items ++ kept.now) }
+    ensures fits { OnOk result (length text.now ≤ most) }
+    ensures cause { IfErr result (λ why. (why ≡ Unanswered Memory)
+        ⊎ ((why ≡ TooLong (length text.now)) × (most < length text.now))) }
+    ensures err { OnErr result
+        (TellsNothing said.old.items said.new.items logged.old.items logged.new.items) }
+{
+    let size = text.len();
+    if size > most {
+        return Err(Withheld::TooLong(size));
+    }
+    tell(said, text, logged, kept)?;
+    Ok(())
+}

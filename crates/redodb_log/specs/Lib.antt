@@ -1,0 +1,4 @@
+pub mod Support
+pub mod Operations
+pub mod Logs
+pub mod Restores

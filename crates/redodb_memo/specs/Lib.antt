@@ -1,0 +1,4 @@
+pub mod Bits
+pub mod Support
+pub mod Memo
+pub mod NameSet

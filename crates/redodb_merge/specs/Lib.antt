@@ -1,0 +1,2 @@
+pub mod Support
+pub mod Merges

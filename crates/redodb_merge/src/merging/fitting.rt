@@ -1,0 +1,96 @@
+//! Whether each entry has a place that fits it.
+
+ghost use Rattle.std.specs.Prelude.{◌≡◌, ◌↔◌, ℕ, IsTrue, MatchBool, length, map};
+ghost use Rattle.redodb_model.specs.Command as commands;
+ghost use Rattle.redodb_model.specs.Placed as placed;
+ghost use Rattle.redodb_model.specs.Placed.{Fits};
+ghost use Rattle.redodb_commands.specs.Meaning.{command_of, reply_of};
+ghost use Rattle.redodb_commands.specs.Support.Meaning.{item_of};
+ghost use Rattle.redodb_journal.specs.Plans.{scripts_of};
+ghost use Rattle.redodb_journal.specs.Journals.{place_of};
+ghost use Rattle.redodb_merge.specs.Support.Merging.{AllFit, FitsAt, FitsScript, MisfitsAt, OneMisfits};
+
+use redodb_commands::{Command, Reply, Script};
+use redodb_journal::{Entry, Journal, Place};
+
+fn is_claim(command: &Command, reply: &Reply) -> bool
+    ensures { result ≡ placed.is_claim (command_of command.now) (reply_of reply.now) }
+{
+    match (command, reply) {
+        (Command::Lock(_), Reply::Granted(_)) => true,
+        (Command::Lock(_), Reply::Busy(_)) => true,
+        (Command::Unlock(_), Reply::Okay) => true,
+        _ => false,
+    }
+}
+
+fn is_lock(command: &Command, target: u32) -> bool
+    ensures { IsTrue result ↔ (command_of command.now ≡ commands.Lock target) }
+{
+    match command {
+        Command::Lock(t) => *t == target,
+        _ => false,
+    }
+}
+
+fn is_unlock(command: &Command, target: u32) -> bool
+    ensures { IsTrue result ↔ (command_of command.now ≡ commands.Unlock target) }
+{
+    match command {
+        Command::Unlock(t) => *t == target,
+        _ => false,
+    }
+}
+
+/// Whether the place fits the command and its reply.
+fn fits(command: &Command, reply: &Reply, place: Place) -> bool
+    ensures { IsTrue result
+        ↔ Fits (place_of place) (command_of command.now) (reply_of reply.now) }
+{
+    match place {
+        Place::Row(_) => !is_claim(command, reply),
+        Place::Granted(t, g) => is_lock(command, t) && reply.is_same(&Reply::Granted(g)),
+        Place::Busy(t, g) => is_lock(command, t) && reply.is_same(&Reply::Busy(g)),
+        Place::Released(t, _) => is_unlock(command, t) && reply.is_same(&Reply::Okay),
+    }
+}
+
+/// Whether the entry's place fits its command and its reply.
+fn entry_fits(script: &Script, entry: &Entry) -> bool
+    ensures { IsTrue result ↔ FitsScript (map item_of script.now) entry.now }
+{
+    match entry.command(script) {
+        Some(command) => fits(command.get(), &entry.reply, entry.place),
+        // No entry of a journal is without a command.
+        None => fits(&Command::Ood, &entry.reply, entry.place),
+    }
+}
+
+/// Whether each entry's place fits it.
+fn journal_fits(script: &Script, entries: &[Entry]) -> bool
+    ensures { MatchBool result
+        ((k : ℕ) → FitsAt (map item_of script.now) entries.now k)
+        ((k : ℕ) × MisfitsAt (map item_of script.now) entries.now k) }
+{
+    'fitting: for k in 0..entries.len() {
+        if !entry_fits(script, &entries[k]) {
+            return false;
+        }
+    }
+    true
+}
+
+/// Whether each entry of the journals has a place that fits it.
+pub(crate) fn all_fit(scripts: &[Script], journals: &[Journal]) -> bool
+    requires sized { length journals.now ≡ length scripts.now }
+    ensures { MatchBool result
+        (AllFit (scripts_of scripts.now) journals.now)
+        (OneMisfits (scripts_of scripts.now) journals.now) }
+{
+    'checking: for s in 0..journals.len() {
+        if !journal_fits(&scripts[s], &journals[s].entries) {
+            return false;
+        }
+    }
+    true
+}

@@ -1,0 +1,3 @@
+pub mod Support
+pub mod Names
+pub mod Orders

@@ -1,0 +1,5 @@
+use Rattle.std.proofs.Common.{rules}
+use Rattle.redodb_records.proofs.cell.Cell.failed.Goals as goal
+
+pub returns : goal.returns
+returns c = search rules

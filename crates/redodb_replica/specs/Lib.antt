@@ -1,0 +1,5 @@
+pub mod CompactCells
+pub mod PairRows
+pub mod Replicas
+pub mod Replies
+pub mod Support

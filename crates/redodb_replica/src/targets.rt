@@ -1,0 +1,90 @@
+//! Whether a name is a target, and the marks of those with a row on a name.
+
+ghost use Rattle.std.specs.Prelude.{◌≡◌, ◌≢◌, ◌<◌, ◌↔◌, ◌⊎◌, IsTrue, IsSome, length};
+ghost use Rattle.redodb_model.specs.OutOfDate.{IsTarget, Depends, HasRow};
+ghost use Rattle.redodb_model.specs.State as states;
+ghost use Rattle.redodb_memo.specs.NameSet.{Enters, size_of};
+ghost use Rattle.redodb_replica.specs.CompactCells.{cell_at, compact_state_of};
+ghost use Rattle.redodb_replica.specs.PairRows.{change_of};
+ghost use Rattle.redodb_replica.specs.Replicas.{records_in};
+ghost use Rattle.redodb_replica.specs.Support.Fits.{IsFit};
+
+use crate::cells::CompactCells;
+use crate::rows::{PairRows, Row};
+use crate::state::CompactState;
+use redodb_graph::Graph;
+use redodb_memo::NameSet;
+
+pub(crate) fn is_target(cells: &CompactCells, t: u32) -> bool
+    requires { t < length cells.now }
+    ensures { IsTrue result ↔ (compact_state_of (cell_at cells.now t).state ≢ states.Idle) }
+{
+    !matches!(cells.get(t).state, CompactState::Idle)
+}
+
+/// Whether there is a change row.
+pub(crate) fn has_change(row: &Row) -> bool
+    ensures { IsTrue result ↔ IsSome (change_of row.now) }
+{
+    row.change().is_some()
+}
+
+/// Whether it is a target, and there is a change row.
+fn is_dependent(cells: &CompactCells, t: u32, row: &Row) -> bool
+    requires { t < length cells.now }
+    ensures { IsTrue result ↔ ((compact_state_of (cell_at cells.now t).state ≢ states.Idle)
+        × IsSome (change_of row.now)) }
+{
+    is_target(cells, t) && has_change(row)
+}
+
+/// Whether it is a target, and there is a change row or a created row.
+fn is_holder(cells: &CompactCells, t: u32, row: &Row) -> bool
+    requires { t < length cells.now }
+    ensures { IsTrue result ↔ ((compact_state_of (cell_at cells.now t).state ≢ states.Idle)
+        × (IsSome (change_of row.now) ⊎ IsTrue row.now.created)) }
+{
+    is_target(cells, t) && (row.created || has_change(row))
+}
+
+/// Marks the targets that depend on the name.
+pub(crate) fn enter_dependents(
+    graph: &Graph,
+    cells: &CompactCells,
+    rows: &PairRows,
+    n: u32,
+    marks: &mut NameSet,
+)
+    requires name { n < length cells.now }
+    requires fit { IsFit graph.now cells.now rows.now }
+    requires sized { size_of marks.old ≡ length cells.now }
+    ensures { Enters (λ t. Depends (records_in graph.now.tables cells.now rows.now) t n)
+        marks.old marks.new }
+{
+    let pairs = graph.pairs();
+    for &(_, place) in graph.pairs_on(n) {
+        let t = pairs[place as usize].0;
+        marks.enter_if(t, is_dependent(cells, t, &rows.row(place)));
+    }
+}
+
+/// Marks the targets with a row on the name.
+pub(crate) fn enter_holders(
+    graph: &Graph,
+    cells: &CompactCells,
+    rows: &PairRows,
+    n: u32,
+    marks: &mut NameSet,
+)
+    requires name { n < length cells.now }
+    requires fit { IsFit graph.now cells.now rows.now }
+    requires sized { size_of marks.old ≡ length cells.now }
+    ensures { Enters (λ t. IsTarget (records_in graph.now.tables cells.now rows.now) t
+        × HasRow (records_in graph.now.tables cells.now rows.now) t n) marks.old marks.new }
+{
+    let pairs = graph.pairs();
+    for &(_, place) in graph.pairs_on(n) {
+        let t = pairs[place as usize].0;
+        marks.enter_if(t, is_holder(cells, t, &rows.row(place)));
+    }
+}

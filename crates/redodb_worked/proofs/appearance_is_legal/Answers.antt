@@ -1,0 +1,5 @@
+use Rattle.redodb_worked.proofs.Appearance.{appearance_legal}
+use Rattle.redodb_worked.proofs.appearance_is_legal.Goals as goal
+
+pub returns : goal.returns
+returns c = appearance_legal

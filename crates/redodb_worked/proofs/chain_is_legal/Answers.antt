@@ -1,0 +1,5 @@
+use Rattle.redodb_worked.proofs.ChainThrough.{chain_legal}
+use Rattle.redodb_worked.proofs.chain_is_legal.Goals as goal
+
+pub returns : goal.returns
+returns c = chain_legal
