@@ -80,11 +80,10 @@ _redodb() {
 _redodb_live() {
     local word=${COMP_WORDS[COMP_CWORD]}
     COMPREPLY=()
-    if [ "${COMP_WORDS[COMP_CWORD - 1]}" = --log ]; then
-        _redodb_files -f "$word"
-    else
-        mapfile -t COMPREPLY < <(compgen -W '--log --sync --salvage --compact --whole --help --version' -- "$word")
-    fi
+    case ${COMP_WORDS[COMP_CWORD - 1]} in
+        --log | --backup) _redodb_files -f "$word" ;;
+        *) mapfile -t COMPREPLY < <(compgen -W '--log --sync --salvage --compact --whole --backup --help --version' -- "$word") ;;
+    esac
 }
 
 _redo() {

@@ -53,6 +53,7 @@ complete -c redodb-live -l sync -d 'Sync each line'
 complete -c redodb-live -l salvage -d 'Cut a damaged log'
 complete -c redodb-live -l compact -d 'Put a dump in the place of the log'
 complete -c redodb-live -l whole -d 'Keep all lines of the log'
+complete -c redodb-live -l backup -r -d 'Put what it has into a new file'
 complete -c redodb-live -l help -d 'Print a summary'
 complete -c redodb-live -l version -d 'Print the version'
 

@@ -46,7 +46,7 @@ case $service in
     redodb-live)
         _arguments '--log[go on from this log]:log:_files' '--sync[sync each line]' '--salvage[cut a damaged log]' \
             '(--whole)--compact[put a dump in the place of the log]' '(--compact)--whole[keep all lines of the log]' \
-            '--help[print a summary]' '--version[print the version]' ;;
+            '--backup[put what it has into a new file]:copy:_files' '--help[print a summary]' '--version[print the version]' ;;
     redo)
         _arguments '(-j --jobs)'{-j,--jobs=}'[scripts at once]:number:' '(-k --keep-going)'{-k,--keep-going}'[go on after a failure]' \
             '(-n --dry-run)'{-n,--dry-run}'[print what would be built]' \

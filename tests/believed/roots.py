@@ -11,7 +11,7 @@ ROOTS: list[Root] = [
     ("redodb_replay", "replay_text"),
     ("redodb_conversation", "serve"),
     ("redodb_arguments", "job"),
-    ("redodb_arguments", "conversation"),
+    ("redodb_arguments", "live_job"),
     ("redodb_arguments", "finish"),
 ]
 # what a run says besides, of which the texts can't tell: the page's last part has what this rests

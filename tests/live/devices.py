@@ -15,6 +15,9 @@ USAGE = [
     ["--compact"], ["--whole"], ["--compact", "--whole"], ["--salvage", "--compact"], ["--sync", "--whole"],
     ["--log", "J", "--compact", "--whole"], ["--whole", "--log", "J", "--compact", "--sync", "--salvage"],
     ["--log", "J", "--compact", "--compact"], ["--log", "J", "--whole", "--whole"],
+    ["--backup", "K"], ["--backup"], ["--log", "J", "--backup"], ["--log", "J", "--backup", "K", "--backup", "L"],
+    ["--log", "J", "--backup", "K", "--sync"], ["--salvage", "--log", "J", "--backup", "K"],
+    ["--log", "J", "--compact", "--backup", "K"], ["--backup", "K", "--log", "J", "--whole"],
 ]
 
 
@@ -28,7 +31,7 @@ class Devices:
         for words in USAGE:
             got = ended(self.program, "1 ood\n", *words, cwd=self.folder)
             self.checks.check(f"usage: {words}", got, fault("usage"))
-        self.checks.check("usage: no log comes of it", (self.folder / "J").exists(), False)
+        self.checks.check("usage: no file comes of it", sorted(self.folder.glob("[JKL]")), [])
         for words in (["--sync", "--log", "J"], ["--salvage", "--log", "J", "--sync"], ["--log", "J", "--whole"],
                       ["--whole", "--sync", "--log", "J", "--salvage"]):
             self.takes(words, HEADER)

@@ -1,7 +1,7 @@
 // A live conversation in plain Rust, to measure against: it does what redodb-live does, with the
 // same memo of what is out of date.
 // Usage: plain [--log FILE [--sync] [--salvage] [--whole]]
-// It keeps all lines of a log, as `--whole` asks for. It takes no `--compact`.
+// It keeps all lines of a log, as `--whole` asks for. It takes no `--compact` and no `--backup`.
 #[path = "../memo/bits.rs"]
 mod bits;
 mod copying;

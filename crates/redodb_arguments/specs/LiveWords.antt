@@ -1,14 +1,16 @@
--- The arguments of the program for conversations.
+-- The arguments of the program for conversations, and for backups of their logs.
 use Rattle.std.specs.Prelude.{◌≡◌, ◌↔◌, List, [], map, Option, Some, None, true, codes, string_bytes, String}
 use Rattle.std.specs.declared.alloc.Global.{Global}
 use Rattle.clap.specs.Words.{App, Row, Rule, Text, fault_of, first_of, matches_of, new_app, new_rule, with_rule}
 use Rattle.clap.specs.declared.builder.action.ArgAction.TheVariants.{Set, SetTrue}
-use Rattle.redodb_arguments.specs.declared.task.Conversation.{Conversation}
+use Rattle.redodb_arguments.specs.declared.task.Backup.{Backup}
+use Rattle.redodb_arguments.specs.declared.task.LiveJob.{LiveJob}
+use Rattle.redodb_arguments.specs.declared.task.LiveJob.TheVariants.{Talk, BackUp}
 use Rattle.redodb_arguments.specs.declared.task.LogFile.{LogFile}
 
--- `--log FILE`
-abbrev pub log_rule : Rule
-log_rule = record (new_rule (codes "log")) { long = Some (codes "log"); action = Some Set }
+-- `--NAME FILE`
+abbrev pub value_rule : Text → Rule
+value_rule name = record (new_rule name) { long = Some name; action = Some Set }
 
 -- `--NAME`
 abbrev pub flag_rule : Text → Rule
@@ -22,13 +24,13 @@ nameless = record (new_app (codes "redodb-live")) {
 
 -- a log, `--sync` and `--salvage`
 abbrev pub log_app : App
-log_app = with_rule (with_rule (with_rule nameless log_rule) (flag_rule (codes "sync")))
+log_app = with_rule (with_rule (with_rule nameless (value_rule (codes "log"))) (flag_rule (codes "sync")))
     (flag_rule (codes "salvage"))
 
--- `--compact` and `--whole`, too
+-- `--compact`, `--whole` and `--backup FILE`, too
 abbrev pub redodb_live : App
-redodb_live = with_rule (with_rule log_app (flag_rule (codes "compact")))
-    (flag_rule (codes "whole"))
+redodb_live = with_rule (with_rule (with_rule log_app (flag_rule (codes "compact")))
+    (flag_rule (codes "whole"))) (value_rule (codes "backup"))
 
 -- the flag was given
 abbrev pub IsGiven : Text → List Row → Type 0
@@ -50,16 +52,24 @@ pub record HasNoFlag (rows : List Row) : Type 0 where
   pub compact : ¬ (IsGiven (codes "compact") rows)
   pub whole : ¬ (IsGiven (codes "whole") rows)
 
--- what clap finds in the words: the log and its flags, or nothing
-abbrev pub AsksForLog : List Row → Option LogFile → Type 0
-AsksForLog rows None = (first_of (codes "log") rows ≡ None) × HasNoFlag rows
-AsksForLog rows (Some log) = AsksForFile rows log
+-- the words ask for a conversation that goes on from this log, or for one without a log
+abbrev pub AsksForTalk : List Row → Option LogFile → Type 0
+AsksForTalk rows None = (first_of (codes "log") rows ≡ None) × HasNoFlag rows
+AsksForTalk rows (Some log) = AsksForFile rows log
 
-abbrev pub Asks : List Row → Conversation → Type 0
-Asks rows conversation = AsksForLog rows conversation.log
+-- the words ask for a backup of a log: no flag goes with it
+pub record AsksForBackup (rows : List Row) (backup : Backup) : Type 0 where
+  pub log : first_of (codes "log") rows ≡ Some (string_bytes backup.log)
+  pub copy : first_of (codes "backup") rows ≡ Some (string_bytes backup.copy)
+  pub alone : HasNoFlag rows
 
--- the words after the program's name mean the conversation
-abbrev pub AskFor : List (String Global) → Conversation → Type 0
+-- what clap finds in the words
+abbrev pub Asks : List Row → LiveJob → Type 0
+Asks rows (Talk log) = (first_of (codes "backup") rows ≡ None) × AsksForTalk rows log
+Asks rows (BackUp backup) = AsksForBackup rows backup
+
+-- the words after the program's name mean the job
+abbrev pub AskFor : List (String Global) → LiveJob → Type 0
 AskFor words = Asks (matches_of redodb_live (map string_bytes words))
 
 -- clap finds no fault in them

@@ -9,6 +9,6 @@ mod words;
 
 pub use ending::finish;
 pub use fault::WordsFault;
-pub use live_words::conversation;
-pub use task::{Conversation, Job, LogFile};
+pub use live_words::live_job;
+pub use task::{Backup, Job, LiveJob, LogFile};
 pub use words::job;

@@ -1,19 +1,19 @@
-ghost use Rattle.std.specs.Prelude.{◌≡◌, ◌↔◌, ◌⊎◌, true, false, IfOk, IfErr, IfSome, IsSome, OnOk};
-ghost use Rattle.clap.specs.Words.{app_of, found_of, kind_of, rows_of, rule_of};
-ghost use Rattle.redodb_arguments.specs.LiveWords.{redodb_live, log_app, flag_rule, log_rule, Asks, AskFor, AreFaultless, IsGiven};
+ghost use Rattle.std.specs.Prelude.{◌≡◌, ◌↔◌, ◌⊎◌, true, false, codes, Some, None, IfOk, IfErr, IfSome, IsSome, OnOk};
+ghost use Rattle.clap.specs.Words.{app_of, first_of, found_of, kind_of, rows_of, rule_of};
+ghost use Rattle.redodb_arguments.specs.LiveWords.{redodb_live, log_app, flag_rule, value_rule, Asks, AskFor, AreFaultless, HasNoFlag, IsGiven};
 
 use crate::fault::WordsFault;
-use crate::task::{Conversation, LogFile};
+use crate::task::{Backup, LiveJob, LogFile};
 use crate::words::refusal;
 use clap::{Arg, ArgAction, ArgMatches, Command};
 use std::alloc::{AllocError, Global};
 
-/// `--log FILE`.
-fn log<'a>(alloc: Global) -> Arg<'a>
-    ensures rule { rule_of result ≡ log_rule }
+/// `--NAME FILE`.
+fn value<'a>(alloc: Global, name: &'a str) -> Arg<'a>
+    ensures rule { rule_of result ≡ value_rule name.now }
     ensures own { result.global ≡ false }
 {
-    Arg::new(alloc, "log").long("log").action(ArgAction::Set)
+    Arg::new(alloc, name).long(name).action(ArgAction::Set)
 }
 
 /// `--NAME`.
@@ -30,18 +30,19 @@ fn with_log<'a>(alloc: Global) -> Result<Command<'a>, AllocError>
 {
     Command::new(alloc, "redodb-live")
         .no_binary_name(true)
-        .arg(log(alloc))?
+        .arg(value(alloc, "log"))?
         .arg(flag(alloc, "sync"))?
         .arg(flag(alloc, "salvage"))
 }
 
-/// A log and its four flags.
+/// A log, its four flags, and a backup of it.
 fn command<'a>(alloc: Global) -> Result<Command<'a>, AllocError>
     ensures { IfOk result (λ command. app_of command ≡ redodb_live) }
 {
     with_log(alloc)?
         .arg(flag(alloc, "compact"))?
-        .arg(flag(alloc, "whole"))
+        .arg(flag(alloc, "whole"))?
+        .arg(value(alloc, "backup"))
 }
 
 /// Whether the flag is among the words.
@@ -55,18 +56,24 @@ fn is_given(matches: &ArgMatches<'_>, flag: &str) -> bool
     }
 }
 
-/// `None` if flags of a log are given without one, or two flags that exclude each other.
-fn conversation_of(
-    alloc: Global,
-    matches: &ArgMatches<'_>,
-) -> Result<Option<Conversation>, AllocError>
+/// Whether any of the four flags is among the words.
+fn has_flag(matches: &ArgMatches<'_>) -> bool
+    ensures { (result ≡ false) ↔ HasNoFlag (rows_of (found_of matches.now)) }
+{
+    is_given(matches, "sync")
+        || is_given(matches, "salvage")
+        || is_given(matches, "compact")
+        || is_given(matches, "whole")
+}
+
+/// The conversation of words that ask for no backup: `None` if flags of a log are given without one, or two flags that
+/// exclude each other.
+fn talk_of(alloc: Global, matches: &ArgMatches<'_>) -> Result<Option<LiveJob>, AllocError>
+    requires { first_of (codes "backup") (rows_of (found_of matches.now)) ≡ None }
     ensures asked { IfOk result (λ found. IfSome found (Asks (rows_of (found_of matches.now)))) }
-    ensures only { (conversation : Conversation)
-        → Asks (rows_of (found_of matches.now)) conversation
+    ensures only { (job : LiveJob) → Asks (rows_of (found_of matches.now)) job
         → IfOk result (λ found. IsSome found) }
 {
-    let sync = is_given(matches, "sync");
-    let salvage = is_given(matches, "salvage");
     let compact = is_given(matches, "compact");
     let whole = is_given(matches, "whole");
     if compact && whole {
@@ -75,33 +82,67 @@ fn conversation_of(
     match matches.get_str("log") {
         Some(name) => {
             let name = name.to_string(alloc)?;
-            let log = Some(LogFile {
+            Ok(Some(LiveJob::Talk(Some(LogFile {
                 name,
-                sync,
-                salvage,
+                sync: is_given(matches, "sync"),
+                salvage: is_given(matches, "salvage"),
                 compact,
                 whole,
-            });
-            Ok(Some(Conversation { log }))
+            }))))
         }
-        None if sync || salvage || compact || whole => Ok(None),
-        None => Ok(Some(Conversation { log: None })),
+        None if has_flag(matches) => Ok(None),
+        None => Ok(Some(LiveJob::Talk(None))),
     }
 }
 
-/// The conversation that the words after the name of `redodb-live` mean.
-pub fn conversation(alloc: Global, words: &[String]) -> Result<Conversation, WordsFault>
+/// The backup of words that ask for this copy: `None` if there is no log, or a flag besides.
+fn backup_of(
+    alloc: Global,
+    matches: &ArgMatches<'_>,
+    copy: &str,
+) -> Result<Option<LiveJob>, AllocError>
+    requires { first_of (codes "backup") (rows_of (found_of matches.now)) ≡ Some copy.now }
+    ensures asked { IfOk result (λ found. IfSome found (Asks (rows_of (found_of matches.now)))) }
+    ensures only { (job : LiveJob) → Asks (rows_of (found_of matches.now)) job
+        → IfOk result (λ found. IsSome found) }
+{
+    if has_flag(matches) {
+        return Ok(None);
+    }
+    match matches.get_str("log") {
+        Some(log) => {
+            let log = log.to_string(alloc)?;
+            let copy = copy.to_string(alloc)?;
+            Ok(Some(LiveJob::BackUp(Backup { log, copy })))
+        }
+        None => Ok(None),
+    }
+}
+
+/// `None` if the words ask for nothing.
+fn job_of(alloc: Global, matches: &ArgMatches<'_>) -> Result<Option<LiveJob>, AllocError>
+    ensures asked { IfOk result (λ found. IfSome found (Asks (rows_of (found_of matches.now)))) }
+    ensures only { (job : LiveJob) → Asks (rows_of (found_of matches.now)) job
+        → IfOk result (λ found. IsSome found) }
+{
+    match matches.get_str("backup") {
+        Some(copy) => backup_of(alloc, matches, copy),
+        None => talk_of(alloc, matches),
+    }
+}
+
+/// What the words after the name of `redodb-live` mean.
+pub fn live_job(alloc: Global, words: &[String]) -> Result<LiveJob, WordsFault>
     ensures others { IfErr result (λ fault. (fault ≡ WordsFault.Memory)
         ⊎ (fault ≡ WordsFault.Usage)) }
 
-    // A conversation is that of its words, in which clap finds no fault.
+    // A job is that of its words, in which clap finds no fault.
     ensures asked { IfOk result (AskFor words.now) }
     ensures sound { OnOk result (AreFaultless words.now) }
 
-    // Words that mean a conversation, and in which clap finds no fault, are refused only if memory
-    // runs out.
-    ensures only { (conversation : Conversation) → AskFor words.now conversation
-        → AreFaultless words.now → IfErr result (λ fault. fault ≡ WordsFault.Memory) }
+    // Words that mean a job, and in which clap finds no fault, are refused only if memory runs out.
+    ensures only { (job : LiveJob) → AskFor words.now job → AreFaultless words.now
+        → IfErr result (λ fault. fault ≡ WordsFault.Memory) }
 {
     let Ok(command) = command(alloc) else {
         return Err(WordsFault::Memory);
@@ -110,8 +151,8 @@ pub fn conversation(alloc: Global, words: &[String]) -> Result<Conversation, Wor
         Ok(matches) => matches,
         Err(error) => return Err(refusal(&error)),
     };
-    match conversation_of(alloc, &matches) {
-        Ok(Some(conversation)) => Ok(conversation),
+    match job_of(alloc, &matches) {
+        Ok(Some(job)) => Ok(job),
         Ok(None) => Err(WordsFault::Usage),
         Err(_) => Err(WordsFault::Memory),
     }

@@ -1,7 +1,7 @@
 use std::slice;
 
 /// What the words mean.
-#[derive(Drop)]
+#[derive(Debug, Drop)]
 pub enum Job {
     /// One session, from standard input.
     Input,
@@ -28,7 +28,7 @@ impl Job {
 }
 
 /// The log of a conversation.
-#[derive(Drop)]
+#[derive(Debug, Drop)]
 pub struct LogFile {
     pub name: String,
     /// Whether each line is synced to the disk before its answer.
@@ -41,8 +41,18 @@ pub struct LogFile {
     pub whole: bool,
 }
 
+/// A log, and the new file that gets a dump of what is known after it.
+#[derive(Debug, Drop)]
+pub struct Backup {
+    pub log: String,
+    pub copy: String,
+}
+
 /// What the words of `redodb-live` mean.
-#[derive(Drop)]
-pub struct Conversation {
-    pub log: Option<LogFile>,
+#[derive(Debug, Drop)]
+pub enum LiveJob {
+    /// A conversation, with its log if it has one.
+    Talk(Option<LogFile>),
+    /// A backup of a log.
+    BackUp(Backup),
 }

@@ -45,6 +45,14 @@ fn copied(file: &File, copy: &File) -> io::Result<Option<u64>> {
     Ok(is_begun.then_some(length))
 }
 
+/// Copies an open file, which others may change meanwhile, to an empty one, which is read from its beginning on then.
+/// Returns whether the file still begins with what was copied.
+pub fn copy_beginning(file: &File, copy: &mut File) -> io::Result<bool> {
+    copy_from(0, file, copy)?;
+    copy.seek(SeekFrom::Start(0))?;
+    Ok(copied(file, copy)?.is_some())
+}
+
 /// Opens a copy that is there, to append to it, and tells how many bytes it has. They are the first ones of the file: any
 /// other file stays closed, or as it is.
 fn open_begun(rt: &HostRuntime, name: &str, file: &File) -> Result<(File, u64), LogFault> {

@@ -39,6 +39,11 @@ impl<'a> FileDevices<'a> {
         }
     }
 
+    /// Removes the log's file.
+    pub fn remove(&self) {
+        self.log.remove(self.rt);
+    }
+
     /// Tells the user why the log was not replaced.
     fn tell_kept(&self, cause: KeepCause) {
         let name = self.log.name();

@@ -1,6 +1,7 @@
+use redodb_arguments::LiveJob;
 use redodb_conversation::ServeFault;
 use redodb_io::{Watched, write_whole};
-use redodb_log as logs;
+use redodb_log::{self as logs, Unread};
 use std::alloc::AllocError;
 use thiserror::Error;
 
@@ -22,6 +23,19 @@ pub enum Fault {
     Write,
     #[error("{0}")]
     Log(#[from] LogFault),
+    #[error("{0}")]
+    Copy(#[from] CopyFault),
+}
+
+/// Why a backup can't be made. Its text follows the name of the copy.
+#[derive(Clone, Copy, Debug, Error)]
+pub enum CopyFault {
+    #[error(": is there already")]
+    IsThere,
+    #[error(": cannot open")]
+    CannotOpen,
+    #[error(": write")]
+    Write,
 }
 
 /// Why the log can't be used. Its text follows the name of the log.
@@ -91,15 +105,35 @@ impl From<ServeFault> for Fault {
     }
 }
 
+impl From<Unread> for Fault {
+    fn from(unread: Unread) -> Fault {
+        match unread {
+            Unread::Memory => Fault::Memory,
+            Unread::Fault(fault) => Fault::Log(LogFault::from(fault)),
+        }
+    }
+}
+
 /// Writes a line to standard error, at once. Ignores a failed write.
 pub fn say(rt: &HostRuntime, line: &str) {
     let _ = write_whole(&mut Watched::new(rt.stderr()), line.as_bytes());
 }
 
-/// Writes the fault's line; `name` is that of the log.
-pub fn tell(rt: &HostRuntime, name: &str, fault: Fault) {
+/// The names of the log and of its copy, if the job has them.
+fn names_of(job: Option<&LiveJob>) -> (&str, &str) {
+    match job {
+        Some(LiveJob::Talk(Some(log))) => (&log.name, "-"),
+        Some(LiveJob::BackUp(backup)) => (&backup.log, &backup.copy),
+        Some(LiveJob::Talk(None)) | None => ("-", "-"),
+    }
+}
+
+/// Writes the fault's line.
+pub fn tell(rt: &HostRuntime, job: Option<&LiveJob>, fault: Fault) {
+    let (log, copy) = names_of(job);
     let line = match fault {
-        Fault::Log(fault) => format!(in rt.alloc(); "redodb-live: {name}{fault}\n"),
+        Fault::Log(fault) => format!(in rt.alloc(); "redodb-live: {log}{fault}\n"),
+        Fault::Copy(fault) => format!(in rt.alloc(); "redodb-live: {copy}{fault}\n"),
         other => format!(in rt.alloc(); "redodb-live: {other}\n"),
     };
     match line {

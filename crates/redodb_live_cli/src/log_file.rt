@@ -1,13 +1,15 @@
 ghost use Rattle.std.specs.Prelude.{IfErr};
 ghost use Rattle.redodb_log.specs.Operations.{IsPrefix};
 
-use crate::copying::{copy_to, write_again};
+use crate::copying::{copy_beginning, copy_to, write_again};
+use crate::opening::{is_named, sync_folder};
 use crate::reading::read_log;
 use crate::replacing::{ReplaceFault, replace};
 use crate::writing::write_or_part;
 use redodb_log::{LogFault, Unread};
 use std::alloc::Global;
 use std::fs::File;
+use std::{fs, io};
 
 /// The file of a log, if there is one: without it nothing is read, and what is done succeeds and does nothing.
 #[derive(Drop)]
@@ -137,12 +139,36 @@ impl<'a> LogFile<'a> {
         let Some(file) = &self.file else {
             return Ok(());
         };
-        let new = replace(rt, self.name, &self.new, file, bytes)?;
+        let (new, is_synced) = replace(rt, self.name, &self.new, file, bytes)?;
         self.former = self.file.replace(new);
         self.length = bytes.len() as u64;
         self.synced = self.length;
         self.is_changed = false;
-        Ok(())
+        if is_synced {
+            Ok(())
+        } else {
+            Err(ReplaceFault::Unsynced)
+        }
+    }
+
+    /// Copies another log to the file, which has no bytes yet, and syncs its folder. Returns whether the log still begins
+    /// with what was copied.
+    pub fn fill(&mut self, rt: &HostRuntime, log: &File) -> io::Result<bool> {
+        let Some(file) = &mut self.file else {
+            return Ok(true);
+        };
+        sync_folder(rt, self.name)?;
+        copy_beginning(log, file)
+    }
+
+    /// Removes the file, if it has its name still.
+    pub fn remove(&self, rt: &HostRuntime) {
+        match &self.file {
+            Some(file) if is_named(rt, self.name, file) => {
+                let _ = fs::remove_file(rt, self.name);
+            }
+            _ => {}
+        }
     }
 
     /// Copies all bytes to a file beside it, which is on the disk then, or goes on with a copy that was begun.

@@ -69,6 +69,30 @@ pub fn is_named(rt: &HostRuntime, name: &str, file: &File) -> bool {
     }
 }
 
+/// Opens a log to read it. Another process may have it.
+pub fn open_to_read(rt: &HostRuntime, name: &str) -> Result<File, LogFault> {
+    for _ in 0..MOST_TRIES {
+        if let Some(file) = open_found(rt, name, OpenOptions::new().read(true))? {
+            return Ok(file);
+        }
+    }
+    Err(LogFault::InUse)
+}
+
+/// Creates a file that no other process has. If it can't be locked, it is removed.
+pub fn create(rt: &HostRuntime, name: &str) -> io::Result<File> {
+    let file = OpenOptions::new()
+        .read(true)
+        .append(true)
+        .create_new(true)
+        .open(rt, name)?;
+    if file.try_lock().is_ok() {
+        return Ok(file);
+    }
+    let _ = fs::remove_file(rt, name);
+    Err(io::Error::from(ErrorKind::WouldBlock))
+}
+
 /// Opens the log's file, a new one if there is none: `None` if another file takes its place meanwhile.
 fn open_once(rt: &HostRuntime, name: &str) -> Result<Option<File>, LogFault> {
     // follows no link, whatever the name leads to

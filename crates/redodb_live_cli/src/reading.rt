@@ -21,10 +21,20 @@ fn read_head(alloc: Global, file: &File, length: u64, most: usize) -> Result<Vec
     Ok(head)
 }
 
+fn begins_log(head: &[u8]) -> bool {
+    LOG_HEADER.starts_with(head) || DUMP_HEADER.starts_with(head)
+}
+
+/// Whether a file that has this length begins as a log does.
+pub fn is_log(alloc: Global, file: &File, length: u64) -> Result<bool, Unread> {
+    let head = read_head(alloc, file, length, LOG_HEADER.len())?;
+    Ok(begins_log(&head))
+}
+
 /// All bytes of a file that has this length. If they don't begin as a log does, the first ones alone.
 pub fn read_log(alloc: Global, file: &File, length: u64) -> Result<Vec<u8>, Unread> {
     let head = read_head(alloc, file, length, LOG_HEADER.len())?;
-    if !LOG_HEADER.starts_with(&head) && !DUMP_HEADER.starts_with(&head) {
+    if !begins_log(&head) {
         return Ok(head);
     }
     match read_whole(alloc, &mut Watched::new(file.take(length)), usize::MAX) {

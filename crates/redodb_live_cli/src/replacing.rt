@@ -1,4 +1,4 @@
-use crate::opening::{is_named, open_folder, open_found, sync_open_folder};
+use crate::opening::{create, is_named, open_folder, open_found, sync_open_folder};
 use std::fs::{File, Metadata, OpenOptions};
 use std::io::{ErrorKind, Write};
 use std::os::unix::fs::{FileExt, MetadataExt};
@@ -75,15 +75,10 @@ fn open_left(rt: &HostRuntime, name: &str, bytes: &[u8]) -> Result<File, KeepCau
 
 /// Opens an empty file of this name for these bytes, which no other process has.
 fn open_new(rt: &HostRuntime, name: &str, bytes: &[u8]) -> Result<File, KeepCause> {
-    let created = OpenOptions::new()
-        .read(true)
-        .append(true)
-        .create_new(true)
-        .open(rt, name);
-    match created {
-        Ok(file) if file.try_lock().is_ok() => Ok(file),
+    match create(rt, name) {
+        Ok(file) => Ok(file),
         Err(error) if error.kind() == ErrorKind::AlreadyExists => open_left(rt, name, bytes),
-        _ => Err(KeepCause::CannotOpen),
+        Err(_) => Err(KeepCause::CannotOpen),
     }
 }
 
@@ -106,21 +101,18 @@ fn fill(file: &mut File, log: &File, bytes: &[u8]) -> Result<(), KeepCause> {
     written.map_err(|_| KeepCause::Write)
 }
 
-/// Gives the new file the name of the log, and syncs the folder.
-fn put_in_place(rt: &HostRuntime, name: &str, new: &str, log: &File) -> Result<(), ReplaceFault> {
+/// Gives the new file the name of the log, and syncs the folder. Returns whether that could be synced.
+fn put_in_place(rt: &HostRuntime, name: &str, new: &str, log: &File) -> Result<bool, KeepCause> {
     let Ok(folder) = open_folder(rt, name) else {
-        return Err(ReplaceFault::Kept(KeepCause::CannotOpen));
+        return Err(KeepCause::CannotOpen);
     };
     if !is_named(rt, name, log) || fs::rename(rt, new, name).is_err() {
-        return Err(ReplaceFault::Kept(KeepCause::CannotRename));
+        return Err(KeepCause::CannotRename);
     }
-    match sync_open_folder(&folder) {
-        Ok(()) => Ok(()),
-        Err(_) => Err(ReplaceFault::Unsynced),
-    }
+    Ok(sync_open_folder(&folder).is_ok())
 }
 
-/// Fills the new file, and gives it the name of the log. If it keeps its own name, it is removed.
+/// Fills the new file, and gives it the name of the log. Returns whether the folder could be synced.
 fn replace_by(
     rt: &HostRuntime,
     name: &str,
@@ -128,26 +120,26 @@ fn replace_by(
     log: &File,
     file: &mut File,
     bytes: &[u8],
-) -> Result<(), ReplaceFault> {
+) -> Result<bool, KeepCause> {
     fill(file, log, bytes)?;
     put_in_place(rt, name, new, log)
 }
 
-/// Puts a new file with these bytes in the place of a log that has this name, by way of the name `new`.
+/// Puts a new file with these bytes in the place of a log that has this name. Until then, its name is `new`. Returns the
+/// file, and whether the folder could be synced.
 pub fn replace(
     rt: &HostRuntime,
     name: &str,
     new: &str,
     log: &File,
     bytes: &[u8],
-) -> Result<File, ReplaceFault> {
+) -> Result<(File, bool), KeepCause> {
     let mut file = open_new(rt, new, bytes)?;
     match replace_by(rt, name, new, log, &mut file, bytes) {
-        Ok(()) => Ok(file),
-        Err(ReplaceFault::Kept(cause)) => {
+        Ok(is_synced) => Ok((file, is_synced)),
+        Err(cause) => {
             let _ = fs::remove_file(rt, new);
-            Err(ReplaceFault::Kept(cause))
+            Err(cause)
         }
-        Err(ReplaceFault::Unsynced) => Err(ReplaceFault::Unsynced),
     }
 }
