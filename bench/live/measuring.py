@@ -1,5 +1,6 @@
 """What the benchmarks of conversations share: programs are compiled, and run in turn."""
 import os
+import shutil
 import subprocess
 import sys
 from pathlib import Path
@@ -7,6 +8,7 @@ from typing import Callable, Sequence
 
 TOP = Path(__file__).resolve().parent.parent.parent
 PROGRAM = TOP / "crates/redodb_live_cli/out/redodb_live_cli"
+WRAPPER = TOP / "redodb-live"
 ROUNDS = int(os.environ.get("ROUNDS", "5"))
 
 
@@ -15,6 +17,13 @@ def compiled(folder: Path, source: str) -> Path:
     program, source_file = folder / Path(source).stem, TOP / "bench" / source
     subprocess.run(["rustc", "--edition", "2021", "-O", "-o", program, source_file], check=True)
     return program
+
+
+def installed(program: Path, folder: Path) -> Path:
+    """The script redodb-live over this program, as `./install` lays them out below a folder."""
+    (folder / "libexec").mkdir()
+    shutil.copy(program, folder / "libexec/redodb-live")
+    return Path(shutil.copy(WRAPPER, folder))
 
 
 def seconds(command: list[object], asked: Path, output: object = subprocess.DEVNULL) -> float:
