@@ -1,7 +1,7 @@
 -- A failure changes the count, and makes it greater than 0.
 use Rattle.std.proofs.Common.{◌≡◌, ◌+◌, ℕ, Bool, true, false, not, ◌||◌, ◌==◌, refl, sym, ◌∙◌, subst, eq-eqb, ne_eqb, arith}
 use Rattle.std.specs.Prelude.{IsTrue}
-use Rattle.std.proofs.lemmas.Bool.{both_ways, cond_both, eqb-true, not_from_true, not_from_false}
+use Rattle.std.proofs.lemmas.Bool.{both_ways, cond_both, eqb-true, not_from_true, not_from_false, or_right}
 use Rattle.redodb_io.specs.Support.Counts.{counted, one_more}
 
 another : (n : ℕ) → one_more n ≡ n → ⊥
@@ -19,10 +19,6 @@ some n =
 or_false : (b : Bool) → b ≡ (b || false)
 or_false true = refl
 or_false false = refl
-
-or_true : (b : Bool) → true ≡ (b || true)
-or_true true = refl
-or_true false = refl
 
 -- a count that stays the same isn't another
 pub same_count : (n : ℕ) → not (n == n) ≡ false
@@ -43,5 +39,6 @@ count_changes false n = same_count n
 pub count_is_some : (failed : Bool) (n : ℕ)
     → not (counted failed n == 0) ≡ (not (n == 0) || failed)
 count_is_some true n =
-    not_from_false (one_more n == 0) (ne_eqb (one_more n) 0 (some n)) ∙ or_true (not (n == 0))
+    not_from_false (one_more n == 0) (ne_eqb (one_more n) 0 (some n))
+    ∙ sym (or_right (not (n == 0)) true refl)
 count_is_some false n = or_false (not (n == 0))

@@ -7,9 +7,11 @@ use Rattle.std.proofs.lemmas.Nat.{shr-shr}
 use Rattle.std.proofs.lemmas.Nat.Bits.{bit_at-zero, bit_at_above, bit_at-trailing_zeros}
 use Rattle.redodb_memo.specs.Bits.{IsSet}
 use Rattle.redodb_memo.specs.Support.Bits.{IsListedBelow}
-use Rattle.redodb_memo.specs.Support.KeptBits.{has_bit, bits_below, HasNonePast}
+use Rattle.redodb_memo.specs.Support.KeptBits.{has_bit, bits_below, HasNonePast, flags_of, KeepsBits}
+use Rattle.redodb_memo.specs.declared.bits.Bits.TheInside.{Inside}
 use Rattle.redodb_model.proofs.Listing.{listed_with}
-use Rattle.redodb_memo.proofs.Words.{flag_at}
+use Rattle.redodb_memo.proofs.Marking.{marked_below}
+use Rattle.redodb_memo.proofs.Words.{flag_at, below_count}
 
 -- the numbers of the set from `next` up to `end` are those whose bits are left, and no other bit is
 -- left
@@ -34,7 +36,7 @@ listed_up_to flags from to ts further none h = (
 )
 
 -- whether the number is in the set is whether its bit is there
-module _ (flags : List Bool) (left next end : ℕ) (are : AreLeft flags left next end) where
+module _ {flags : List Bool} {left next end : ℕ} (are : AreLeft flags left next end) where
   -- no bit is left below one that is the lowest
   none_between : (z : ℕ) → next + z ≤ end → ((i : ℕ) → i < z → bit_at left i ≡ 0) → (t : ℕ)
       → next ≤ t → t < next + z → IsSet flags t → ⊥
@@ -74,6 +76,11 @@ module _ (flags : List Bool) (left next end : ℕ) (are : AreLeft flags left nex
 
     pub lowest_member : IsSet flags (next + lowest)
     lowest_member = (are.each lowest lowest_inside).0 lowest_bit
+
+    pub lowest_below : {inside : Inside} → KeepsBits inside → flags_of inside ≡ flags
+        → next + lowest < inside.count
+    lowest_below keeps is = below_count (next + lowest) keeps is
+        (marked_below flags (next + lowest) lowest_member)
 
     -- the lowest bit is passed
     passed : (j : ℕ) → bit_at (left / 2 ^ lowest / 2 ^ 1) j ≡ bit_at left (lowest + 1 + j)

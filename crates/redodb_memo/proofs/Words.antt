@@ -1,5 +1,5 @@
 -- Bits of words, as flags.
-use Rattle.std.proofs.Common.{◌≡◌, ◌∙◌, ℕ, ◌<◌, ◌≤◌, ◌+◌, ◌*◌, ◌/◌, ◌%◌, ◌^◌, Bool, true, false, List, ◌++◌, eqb, length, get_or, set, take, replicate, sym, ap, inl, inr, arith, w64}
+use Rattle.std.proofs.Common.{◌≡◌, ◌∙◌, ℕ, ◌<◌, ◌≤◌, ◌+◌, ◌*◌, ◌/◌, ◌%◌, ◌^◌, Bool, true, false, List, ◌++◌, eqb, length, get_or, set, take, replicate, refl, sym, ap, inl, inr, arith, w64}
 use Rattle.std.specs.Prelude.{bit_and, bit_or}
 use Rattle.std.specs.Int.{bit_at, bit_not}
 use Rattle.std.proofs.lemmas.Bool.{cases_eq, cases_lt}
@@ -7,7 +7,8 @@ use Rattle.std.proofs.lemmas.List.{same_lists, length-set, get_or-set_same, get_
 use Rattle.std.proofs.lemmas.List.FromFn.{get_or-map-range_with_len, length-map-range_with_len}
 use Rattle.std.proofs.lemmas.Nat.Bits.{bit_at-zero, shr_and_one, bit_at_set_same, bit_at_set_other, bit_at_clear_same, bit_at_clear_other}
 use Rattle.redodb_model.proofs.MorePlaces.{get_or-extended}
-use Rattle.redodb_memo.specs.Support.KeptBits.{has_bit, bits_below, HasNonePast}
+use Rattle.redodb_memo.specs.Support.KeptBits.{has_bit, bits_below, HasNonePast, flags_of, KeepsBits}
+use Rattle.redodb_memo.specs.declared.bits.Bits.TheInside.{Inside}
 
 pub bits_sized : (words : List ℕ) (count : ℕ) → length (bits_below words count) ≡ count
 bits_sized words count = length-map-range_with_len (has_bit words) 0 count
@@ -16,18 +17,6 @@ pub bit_below : (words : List ℕ) (count t : ℕ) (d : Bool) → t < count
     → get_or (bits_below words count) t d ≡ has_bit words t
 bit_below words count t d below =
     get_or-map-range_with_len (has_bit words) 0 count t t d below (omega arith)
-
--- a number below the end of the flags has a word
-pub below_count : (words : List ℕ) (count t : ℕ) (flags : List Bool)
-    → bits_below words count ≡ flags → t < length flags → t < count
-below_count words count t flags is below =
-    omega (arith, below, sym (bits_sized words count) ∙ ap length is)
-
-pub word_within : (words : List ℕ) (count t k : ℕ) (flags : List Bool)
-    → length words ≡ (count + 63) / 64 → bits_below words count ≡ flags → t < length flags
-    → t / 64 ≡ k → k < length words
-word_within words count t k flags enough is below at =
-    omega (arith, enough, at, below_count words count t flags is below)
 
 -- the flag of a number is its bit
 pub flag_at : (words : List ℕ) (count t : ℕ) → HasNonePast words count
@@ -38,14 +27,6 @@ flag_at words count t none = elim (cases_lt t count) [
       get_or_past (bits_below words count) t false (omega (arith, past, bits_sized words count))
       ∙ sym (none t past)
 ]
-
--- a bit that was read
-pub bit_read : (words : List ℕ) (t w : ℕ) → t / 64 < length words → w ≡ get_or words (t / 64) w
-    → eqb (bit_and (w / 2 ^ (t % 64)) 1) 1 ≡ has_bit words t
-unfolding has_bit
-bit_read words t w in' read =
-    ap (λ b. eqb b 1) (shr_and_one w (t % 64))
-    ∙ ap (λ v. eqb (bit_at v (t % 64)) 1) (read ∙ get_or_default words (t / 64) w 0 in')
 
 -- no bit but that of one number changes
 pub record IsChangedAt (old new : List ℕ) (t : ℕ) (b : Bool) : Type 0 where
@@ -75,42 +56,64 @@ changed_word words t w v b in' read here others = record {
   ];
 }
 
-module _ (words : List ℕ) (t w : ℕ) (in' : t / 64 < length words)
-    (read : w ≡ get_or words (t / 64) w) where
-  within : t % 64 < 64
-  within = omega arith
+-- a number below the end of the flags has a bit in a word
+module _ {inside : Inside} {flags : List Bool} (t : ℕ) (keeps : KeepsBits inside)
+    (is : flags_of inside ≡ flags) (in' : t < length flags) where
+  pub below_count : t < inside.count
+  below_count = omega (arith, in', sym (bits_sized inside.words.items inside.count) ∙ ap length is)
 
-  pub bit_put : IsChangedAt words (set words (t / 64) (bit_or w (1 * 2 ^ (t % 64) % 2 ^ 64))) t true
-  bit_put = changed_word words t w (bit_or w (1 * 2 ^ (t % 64) % 2 ^ 64)) true in' read
-      (ap (λ x. eqb x 1) (bit_at_set_same w64 w (t % 64) within))
-      (λ i small other. bit_at_set_other w64 w (t % 64) within i other)
+  pub word_within : (k : ℕ) → t / 64 ≡ k → k < length inside.words.items
+  word_within k at = omega (arith, keeps.enough, at, below_count)
 
-  pub bit_removed : IsChangedAt words
-      (set words (t / 64) (bit_and w (bit_not w64 (1 * 2 ^ (t % 64) % 2 ^ 64)))) t false
-  bit_removed = changed_word words t w (bit_and w (bit_not w64 (1 * 2 ^ (t % 64) % 2 ^ 64))) false
-      in' read (ap (λ x. eqb x 1) (bit_at_clear_same w64 w (t % 64) within))
-      (λ i small other. bit_at_clear_other w64 w (t % 64) within i small other)
+  module _ {w : ℕ} (read : w ≡ get_or inside.words.items (t / 64) w) where
+    within : t % 64 < 64
+    within = omega arith
 
-module _ {old new : List ℕ} {t : ℕ} {b : Bool} (count : ℕ) (below : t < count)
-    (changed : IsChangedAt old new t b) where
-  pub none_past_still : HasNonePast old count → HasNonePast new count
-  none_past_still none u past =
-      changed.others u (λ e. absurd (omega (arith, e, past, below))) ∙ none u past
+    word_in : t / 64 < length inside.words.items
+    word_in = word_within (t / 64) refl
 
-  pub flag_changed : bits_below new count ≡ set (bits_below old count) t b
-  flag_changed = same_lists (bits_below new count) (set (bits_below old count) t b)
-      (bits_sized new count
-      ∙ sym (length-set (bits_below old count) t b ∙ bits_sized old count))
-      (λ k d in'.
-      let under : k < count = omega (arith, in', bits_sized new count) in
-      let inside : t < length (bits_below old count) = omega (arith, below, bits_sized old count) in
-      bit_below new count k d under ∙ elim (cases_eq k t) [
-        | inl e ↦ ap (has_bit new) e ∙ changed.here
-            ∙ sym (ap (λ i. get_or (set (bits_below old count) t b) i d) e
-            ∙ get_or-set_same (bits_below old count) t b d inside)
-        | inr other ↦ changed.others k other ∙ sym (bit_below old count k d under)
-            ∙ sym (get_or-set_other (bits_below old count) t k b d other)
-      ])
+    pub bit_read : eqb (bit_and (w / 2 ^ (t % 64)) 1) 1 ≡ get_or flags t false
+    unfolding has_bit
+    bit_read =
+        ap (λ b. eqb b 1) (shr_and_one w (t % 64))
+        ∙ ap (λ v. eqb (bit_at v (t % 64)) 1)
+        (read ∙ get_or_default inside.words.items (t / 64) w 0 word_in)
+        ∙ sym (flag_at inside.words.items inside.count t keeps.none_past)
+        ∙ ap (λ (fs : List Bool). get_or fs t false) is
+
+    pub bit_put : IsChangedAt inside.words.items
+        (set inside.words.items (t / 64) (bit_or w (1 * 2 ^ (t % 64) % 2 ^ 64))) t true
+    bit_put = changed_word inside.words.items t w (bit_or w (1 * 2 ^ (t % 64) % 2 ^ 64)) true
+        word_in read (ap (λ x. eqb x 1) (bit_at_set_same w64 w (t % 64) within))
+        (λ i small other. bit_at_set_other w64 w (t % 64) within i other)
+
+    pub bit_removed : IsChangedAt inside.words.items
+        (set inside.words.items (t / 64) (bit_and w (bit_not w64 (1 * 2 ^ (t % 64) % 2 ^ 64)))) t
+        false
+    bit_removed = changed_word inside.words.items t w
+        (bit_and w (bit_not w64 (1 * 2 ^ (t % 64) % 2 ^ 64))) false word_in read
+        (ap (λ x. eqb x 1) (bit_at_clear_same w64 w (t % 64) within))
+        (λ i small other. bit_at_clear_other w64 w (t % 64) within i small other)
+
+  module _ {new : List ℕ} {b : Bool} (changed : IsChangedAt inside.words.items new t b) where
+    pub none_past_still : HasNonePast new inside.count
+    none_past_still u past =
+        changed.others u (λ e. absurd (omega (arith, e, past, below_count))) ∙ keeps.none_past u past
+
+    pub flag_changed : bits_below new inside.count ≡ set flags t b
+    flag_changed = same_lists (bits_below new inside.count) (set flags t b)
+        (bits_sized new inside.count ∙ sym (length-set flags t b ∙ sym (ap length is)
+        ∙ bits_sized inside.words.items inside.count))
+        (λ k d within.
+        let under : k < inside.count = omega (arith, within, bits_sized new inside.count) in
+        bit_below new inside.count k d under ∙ elim (cases_eq k t) [
+          | inl e ↦ ap (has_bit new) e ∙ changed.here
+              ∙ sym (ap (λ i. get_or (set flags t b) i d) e ∙ get_or-set_same flags t b d in')
+          | inr other ↦ changed.others k other
+              ∙ sym (bit_below inside.words.items inside.count k d under)
+              ∙ ap (λ (fs : List Bool). get_or fs k d) is
+              ∙ sym (get_or-set_other flags t k b d other)
+        ])
 
 -- words without a bit
 module _ (size : ℕ) where

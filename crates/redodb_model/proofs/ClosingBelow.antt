@@ -2,7 +2,7 @@
 use Rattle.std.proofs.Common.{◌≡◌, ℕ, ◌<◌, Bool, true, false, cond, List, [], ◌∷◌, filter, Option, Some, None, option_map, subst}
 use Rattle.std.specs.List.{AllByRecursion, filter_map, cons_option}
 use Rattle.std.specs.declared.cmp.Ordering.{Ordering}
-use Rattle.std.specs.declared.cmp.Ordering.TheVariants.{Less, Equal, Greater}
+use Rattle.std.specs.declared.cmp.Ordering.TheVariants.{Greater}
 use Rattle.redodb_model.specs.Names.{Naming}
 use Rattle.redodb_model.specs.Command.{Command, Lock, Unlock, Failed, asked_lock}
 use Rattle.redodb_model.specs.History.{Line}
@@ -46,9 +46,8 @@ module _ (n : ℕ) where
       cond_below (p k) k (filter p ks) below.0 (filter_below p ks below.1)
 
   lesser_below : (o : Ordering) (k m : ℕ) → k < n → m < n → lesser o k m < n
-  lesser_below Less k m bk bm = bk
-  lesser_below Equal k m bk bm = bk
   lesser_below Greater k m bk bm = bm
+  lesser_below o k m bk bm = bk
 
   lesser_of_below : (naming : Naming ℕ) (k : ℕ) (o : Option ℕ) → k < n → IsSomeBelow o
       → lesser_of naming k o < n

@@ -3,7 +3,7 @@ use Rattle.std.proofs.Common.{◌≡◌, ℕ, ◌<◌, Bool, true, false, cond, 
 use Rattle.std.specs.Prelude.{◌==◌}
 use Rattle.std.specs.List.{AllByRecursion, filter, filter_map, cons_option}
 use Rattle.std.specs.declared.cmp.Ordering.{Ordering}
-use Rattle.std.specs.declared.cmp.Ordering.TheVariants.{Less, Equal, Greater}
+use Rattle.std.specs.declared.cmp.Ordering.TheVariants.{Less}
 use Rattle.redodb_model.specs.Names.{Naming, numbers}
 use Rattle.redodb_model.specs.Support.Names.{IsNaming}
 use Rattle.redodb_model.specs.Command.{Command, Lock, Unlock, Start, Done, Failed, asked_lock}
@@ -53,8 +53,7 @@ module _ {N M : Type 0} (name : N → M) where
 
   lesser_named : (o : Ordering) (n m : N) → lesser o (name n) (name m) ≡ name (lesser o n m)
   lesser_named Less n m = refl
-  lesser_named Equal n m = refl
-  lesser_named Greater n m = refl
+  lesser_named o n m = refl
 
   letting_by : (b : Bool) (t : N)
       → cond b (Failed (name t)) (Unlock (name t))

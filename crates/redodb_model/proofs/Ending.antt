@@ -4,13 +4,13 @@ use Rattle.std.specs.Cmp.{IsTotalOrder}
 use Rattle.std.specs.List.{Contains, filter_map}
 use Rattle.std.specs.Ordering.{ordering_reverse}
 use Rattle.std.specs.declared.cmp.Ordering.{Ordering}
-use Rattle.std.specs.declared.cmp.Ordering.TheVariants.{Less, Equal, Greater}
+use Rattle.std.specs.declared.cmp.Ordering.TheVariants.{Less, Greater}
 use Rattle.std.proofs.lemmas.Bool.{false≢true, eqb-true, eq-eqb, false_from_ne_true}
 use Rattle.std.proofs.lemmas.List.Elements.{All-contains, filter_passes}
 use Rattle.std.proofs.Math.Path.{fun_ext}
 use Rattle.redodb_model.specs.Names.{Naming}
 use Rattle.redodb_model.specs.Support.Names.{IsNaming}
-use Rattle.redodb_model.specs.State.{State, Cell, TargetState, Idle, Building, Built, target_state, is_building, empty}
+use Rattle.redodb_model.specs.State.{State, Cell, TargetState, Building, target_state, is_building, empty}
 use Rattle.redodb_model.specs.State as states
 use Rattle.redodb_model.specs.Command.{Command, Unlock, Failed, asked_lock}
 use Rattle.redodb_model.specs.Reply.{Okay}
@@ -26,9 +26,8 @@ use Rattle.redodb_model.proofs.OneMore.{left_by-append, legal_both}
 use Rattle.redodb_model.proofs.OwnLines.{not_built, held_own, builds_own, holds_more, builds_more, holds_by_part, builds_by_part}
 
 lesser_same : {N : Type 0} (o : Ordering) (n m t : N) → n ≡ t → m ≡ t → lesser o n m ≡ t
-lesser_same Less n m t en em = en
-lesser_same Equal n m t en em = en
 lesser_same Greater n m t en em = em
+lesser_same o n m t en em = en
 
 held_some : (s : ℕ) (o : Option ℕ) → is_held_by s o ≡ true → o ≡ Some s
 held_some s None e = absurd (cc)
@@ -38,20 +37,16 @@ held_some s (Some h) e = ap Some (eqb-true h s e)
 built_by_holder : {N : Type 0} (st : State N) (s : ℕ) (t : N) (a : TargetState)
     → target_state st.records t ≡ a → BuildersHold st → st.locks.holder t ≡ Some s
     → is_building a ≡ true → is_built_by s a ≡ true
-built_by_holder st s t Idle is h held e = absurd (false≢true e)
 built_by_holder st s t (Building b) is h held e =
     ap (is_held_by s) (sym (h.held t b is) ∙ held) ∙ eq-eqb s s refl
-built_by_holder st s t Built is h held e = absurd (false≢true e)
-built_by_holder st s t states.Failed is h held e = absurd (false≢true e)
+built_by_holder st s t state is h held e = absurd (false≢true e)
 
 -- a session that holds nothing builds nothing
 built_by_none : {N : Type 0} (st : State N) (s : ℕ) (t : N) (a : TargetState)
     → target_state st.records t ≡ a → BuildersHold st → is_held_by s (st.locks.holder t) ≡ false
     → is_built_by s a ≡ false
-built_by_none st s t Idle is h free = refl
 built_by_none st s t (Building b) is h free = ap (is_held_by s) (sym (h.held t b is)) ∙ free
-built_by_none st s t Built is h free = refl
-built_by_none st s t states.Failed is h free = refl
+built_by_none st s t state is h free = refl
 
 -- a state in which a session holds nothing
 without_none : {N : Type 0} (st : State N) (s : ℕ) → BuildersHold st

@@ -4,7 +4,7 @@ use Rattle.std.proofs.lemmas.Bool.{cases_Bool, false≢true, eqb-true}
 use Rattle.redodb_model.specs.Names.{Naming, put}
 use Rattle.redodb_model.specs.Support.Names.{IsNaming}
 use Rattle.redodb_model.specs.State.{State, Locks, Cell, TargetState, Building, target_state, is_building, empty}
-use Rattle.redodb_model.specs.Command.{Command, File, Gone, Lock, Unlock, Start, IfChange, IfCreate, Always, Stamp, Done, Failed, Ood, Targets, Sources}
+use Rattle.redodb_model.specs.Command.{Command, File, Gone, Lock, Unlock, Start, Stamp, Done, Failed}
 use Rattle.redodb_model.specs.Reply.{Refusal, NotLocked}
 use Rattle.redodb_model.specs.Reply as replies
 use Rattle.redodb_model.specs.Step.{verdict_of, effect_of, after, unless_refused, locks_after, locks_granted, holds_target, is_held_by, refusal_or}
@@ -87,15 +87,10 @@ module _ {N : Type 0} {naming : Naming N} (law : IsNaming naming) where
   after_accepted st s (Start t) v h m b is =
       at_cell st t _ h (λ c e. let f : s ≡ c = cc in holder_is s (st.locks.holder t)
       (test_failed (not (is_held_by s (st.locks.holder t))) NotLocked _ v).0 ∙ ap Some f) m b is
-  after_accepted st s (IfChange t ns) v h m b is = h.held m b is
-  after_accepted st s (IfCreate t ns) v h m b is = h.held m b is
-  after_accepted st s (Always t) v h m b is = h.held m b is
   after_accepted st s (Stamp t content) v h m b is = at_cell st t _ h (λ c e. h.held t c e) m b is
   after_accepted st s (Done t stamp) v h m b is = at_cell st t _ h (λ c e. absurd (cc)) m b is
   after_accepted st s (Failed t) v h m b is = at_cell st t _ h (λ c e. absurd (cc)) m b is
-  after_accepted st s Ood v h m b is = h.held m b is
-  after_accepted st s Targets v h m b is = h.held m b is
-  after_accepted st s Sources v h m b is = h.held m b is
+  after_accepted st s command v h m b is = h.held m b is
 
   by_verdict : (st : State N) (s : ℕ) (command : Command N) (v : Option (Refusal N))
       → verdict_of naming st.records s (holds_target st.locks s command) command ≡ v

@@ -18,8 +18,7 @@ use Rattle.redodb_model.proofs.Members.{contains_cases, contains_none}
 
 not_greater : (o : Ordering) → o ≢ Less → is_gt (ordering_reverse o) ≡ false
 not_greater Less unlike = absurd (unlike refl)
-not_greater Equal unlike = refl
-not_greater Greater unlike = refl
+not_greater o unlike = refl
 
 not_less : (o p : Ordering) → o ≡ ordering_reverse p → is_gt o ≡ false → p ≢ Less
 not_less o p turned below less =
@@ -35,15 +34,13 @@ module _ {N : Type 0} {naming : Naming N} (law : IsNaming naming)
   -- not above either
   lesser_first : (n m : N) (o : Ordering) → naming.order n m ≡ o
       → is_gt (naming.order (lesser o n m) n) ≡ false
-  lesser_first n m Less e = ap is_gt (tied_itself total n)
-  lesser_first n m Equal e = ap is_gt (tied_itself total n)
   lesser_first n m Greater e = ap is_gt (total.antisymm m n ∙ ap ordering_reverse e)
+  lesser_first n m o e = ap is_gt (tied_itself total n)
 
   lesser_second : (n m : N) (o : Ordering) → naming.order n m ≡ o
       → is_gt (naming.order (lesser o n m) m) ≡ false
-  lesser_second n m Less e = ap is_gt e
-  lesser_second n m Equal e = ap is_gt e
   lesser_second n m Greater e = ap is_gt (tied_itself total m)
+  lesser_second n m o e = ap is_gt e
 
   below_first : (n : N) (o : Option N) → is_gt (naming.order (lesser_of naming n o) n) ≡ false
   below_first n None = ap is_gt (tied_itself total n)

@@ -1,13 +1,13 @@
 -- Closing commands are accepted, and a session without one holds nothing.
 use Rattle.std.proofs.Common.{◌≡◌, ◌⊎◌, ℕ, Bool, true, false, cond, List, [], ◌∷◌, Option, Some, None, option_map, refl, sym, ap, ◌∙◌, subst, inl, inr}
-use Rattle.std.specs.List.{Contains, filter, filter_map, cons_option}
+use Rattle.std.specs.List.{Contains, filter_map, cons_option}
 use Rattle.std.proofs.lemmas.Bool.{false≢true, eq-eqb, false_from_ne_true}
 use Rattle.std.proofs.lemmas.List.Elements.{All-contains, filter_passes}
 use Rattle.std.specs.declared.cmp.Ordering.{Ordering}
-use Rattle.std.specs.declared.cmp.Ordering.TheVariants.{Less, Equal, Greater}
+use Rattle.std.specs.declared.cmp.Ordering.TheVariants.{Greater}
 use Rattle.redodb_model.specs.Names.{Naming}
 use Rattle.redodb_model.specs.Support.Names.{IsNaming}
-use Rattle.redodb_model.specs.State.{State, TargetState, Idle, Building, Built, target_state, is_building, empty}
+use Rattle.redodb_model.specs.State.{State, TargetState, Building, target_state, is_building, empty}
 use Rattle.redodb_model.specs.State as states
 use Rattle.redodb_model.specs.Command.{Command, Lock, Unlock, Failed, asked_lock}
 use Rattle.redodb_model.specs.Reply.{Reply, Okay}
@@ -15,33 +15,13 @@ use Rattle.redodb_model.specs.Step.{Answers, is_held_by, is_built_by}
 use Rattle.redodb_model.specs.History.{Line, Legal, left_by, part_of}
 use Rattle.redodb_model.specs.Closing.{is_okay, is_granted, lesser, lesser_of, least, holds_then, holds_after, holds, builds, held_in, letting_go, closing_of}
 use Rattle.redodb_model.proofs.Held.{BuildersHold, builders_hold, builders_hold_at_first}
-use Rattle.redodb_model.proofs.Members.{contains_first, contains_later, contains_cases, contains_none}
+use Rattle.redodb_model.proofs.Members.{contains_first, contains_later, contains_none, contains_filter}
 use Rattle.redodb_model.proofs.OwnLines.{holds_by_part, builds_by_part}
 
 lesser_either : {N : Type 0} (o : Ordering) (n m : N)
     → (lesser o n m ≡ n) ⊎ (lesser o n m ≡ m)
-lesser_either Less n m = inl refl
-lesser_either Equal n m = inl refl
 lesser_either Greater n m = inr refl
-
-filter_cond : {N : Type 0} (b : Bool) (n t : N) (names : List N) → b ≡ true → n ≡ t
-    → Contains (cond b (n ∷ names) names) t
-filter_cond true n t names p e = subst (Contains (n ∷ names)) e (contains_first n names)
-filter_cond false n t names p e = absurd (false≢true p)
-
-filter_later : {N : Type 0} (b : Bool) (n t : N) (names : List N) → Contains names t
-    → Contains (cond b (n ∷ names) names) t
-filter_later true n t names h = contains_later n names t h
-filter_later false n t names h = h
-
--- what passes the test is kept
-pub in_filter : {N : Type 0} (p : N → Bool) (names : List N) (t : N) → Contains names t
-    → p t ≡ true → Contains (filter p names) t
-in_filter p [] t h e = absurd (contains_none t h)
-in_filter p (n ∷ names) t h e = elim (contains_cases n names t h) [
-  | inl is ↦ filter_cond (p n) n t (filter p names) (ap p is ∙ e) is
-  | inr k ↦ filter_later (p n) n t (filter p names) (in_filter p names t k e)
-]
+lesser_either o n m = inl refl
 
 pub asked_first : {N : Type 0} (o : Option N) (names : List N) (t : N) → o ≡ Some t
     → Contains (cons_option o names) t
@@ -150,8 +130,8 @@ module _ {N : Type 0} {naming : Naming N} (law : IsNaming naming) where
   pub held_is_in : (own : List (Line N)) (t : N) → holds naming own t ≡ true
       → Contains (held_in naming own) t
   held_is_in own t e =
-      in_filter (holds naming own) (filter_map (λ (line : Line N). asked_lock line.command) own) t
-      (held_is_asked own t e) e
+      (contains_filter (holds naming own)
+      (filter_map (λ (line : Line N). asked_lock line.command) own) t).1 (held_is_asked own t e, e)
 
   -- a session without a closing command holds nothing
   pub closing_none : (own : List (Line N)) → closing_of naming own ≡ None → (t : N)
@@ -166,11 +146,9 @@ module _ {N : Type 0} {naming : Naming N} (law : IsNaming naming) where
   not_building : (st : State N) (s : ℕ) (t : N) (a : TargetState) → target_state st.records t ≡ a
       → BuildersHold st → is_held_by s (st.locks.holder t) ≡ true → is_built_by s a ≡ false
       → is_building a ≡ false
-  not_building st s t Idle is h held n = refl
   not_building st s t (Building b) is h held n =
       absurd (false≢true (sym n ∙ ap (is_held_by s) (sym (h.held t b is)) ∙ held))
-  not_building st s t Built is h held n = refl
-  not_building st s t states.Failed is h held n = refl
+  not_building st s t state is h held n = refl
 
   -- the closing commands of a target that the session holds are accepted
   pub letting_answers : (b : Bool) (st : State N) (s : ℕ) (t : N) → BuildersHold st
@@ -205,10 +183,8 @@ module _ {N : Type 0} {naming : Naming N} (law : IsNaming naming) where
 
   no_builder : (st : State N) (t : N) (a : TargetState) → target_state st.records t ≡ a
       → BuildersHold st → st.locks.holder t ≡ None → is_building a ≡ false
-  no_builder st t Idle is h free = refl
   no_builder st t (Building b) is h free = let held = h.held t b is in absurd (cc)
-  no_builder st t Built is h free = refl
-  no_builder st t states.Failed is h free = refl
+  no_builder st t state is h free = refl
 
   -- if no session has a closing command left, nothing is held and nothing is building
   pub nothing_held : (lines : List (Line N)) → Legal naming lines

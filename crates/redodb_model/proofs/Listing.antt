@@ -3,7 +3,7 @@ use Rattle.std.proofs.Common.{◌≡◌, ◌⊎◌, ◌↔◌, ℕ, ◌<◌, ◌
 use Rattle.std.proofs.lemmas.Bool.{cases_eq, cases_lt, false≢true}
 use Rattle.std.proofs.lemmas.List.{append-nil, take_all, take_more}
 use Rattle.std.proofs.lemmas.List.Quantifiers.{all_pairs_push}
-use Rattle.std.proofs.lemmas.List.Elements.{Contains-get_or, Contains-push, Contains-push_cases, Contains-append_left, All-from_recursion}
+use Rattle.std.proofs.lemmas.List.Elements.{Contains-get_or, Contains-push, Contains-push_cases, Contains-append_left, All-contains, All-from_recursion}
 use Rattle.std.specs.List.{Contains}
 use Rattle.std.specs.Cmp.{nat_cmp_is}
 use Rattle.std.specs.Ordering.{nat_cmp}
@@ -70,11 +70,7 @@ each_below n (t ∷ ts) h =
     (h t (contains_first t ts), each_below n ts (λ u c. h u (contains_later t ts u c)))
 
 pub below_in : (n : ℕ) (ts : List ℕ) (t : ℕ) → AllBelow n ts → Contains ts t → t < n
-below_in n [] t all c = absurd (contains_none t c)
-below_in n (u ∷ us) t all c = elim (contains_cases u us t c) [
-  | inl e ↦ subst (λ v. v < n) e all.0
-  | inr later ↦ below_in n us t all.1 later
-]
+below_in n ts t all = All-contains (λ u. u < n) ts t (All-from_recursion (λ u. u < n) ts all)
 
 -- a number is on a list or isn't
 pub listed_or_not : (ts : List ℕ) (t : ℕ) → Contains ts t ⊎ (Contains ts t → ⊥)

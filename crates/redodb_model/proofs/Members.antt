@@ -1,8 +1,9 @@
 -- The members of a list.
-use Rattle.std.proofs.Common.{◌≡◌, ◌⊎◌, ◌<◌, List, [], ◌∷◌, length, get_or, refl, subst, inl, inr, arith, zero, suc, map}
+use Rattle.std.proofs.Common.{◌≡◌, ◌⊎◌, ◌↔◌, ◌∙◌, ◌<◌, Bool, true, false, cond, IsTrue, List, [], ◌∷◌, length, get_or, refl, sym, subst, inl, inr, arith, zero, suc, map}
+use Rattle.std.proofs.lemmas.Bool.{false≢true}
 use Rattle.std.proofs.lemmas.List.{get_or-map, length-map}
 use Rattle.std.proofs.lemmas.List.Elements.{Contains-get_or}
-use Rattle.std.specs.List.{AllPairs, Contains}
+use Rattle.std.specs.List.{AllPairs, Contains, filter}
 
 pub contains_first : {X : Type 0} (x : X) (xs : List X) → Contains (x ∷ xs) x
 contains_first x xs = (0, omega arith, refl)
@@ -34,6 +35,39 @@ contains_from_map f (x ∷ xs) y h = elim (contains_cases (f x) (map f xs) y h) 
   | inl e ↦ (x, contains_first x xs, e)
   | inr k ↦ let r = contains_from_map f xs y k in (r.0, contains_later x xs r.0 r.1, r.2)
 ]
+
+-- the members that pass the test
+pub contains_filter : {X : Type 0} (p : X → Bool) (xs : List X) (t : X)
+    → Contains (filter p xs) t ↔ (Contains xs t × IsTrue (p t))
+contains_filter p [] t =
+    (λ c. absurd (contains_none t c), λ h. absurd (contains_none t h.0))
+contains_filter p (x ∷ xs) t = at (contains_filter p xs t) (p x) refl
+  where
+    at : Contains (filter p xs) t ↔ (Contains xs t × IsTrue (p t)) → (b : Bool) → p x ≡ b
+        → Contains (cond b (x ∷ filter p xs) (filter p xs)) t
+        ↔ (Contains (x ∷ xs) t × IsTrue (p t))
+    at rest true passed = (
+      λ c. elim (contains_cases x (filter p xs) t c) [
+        | inl e ↦ (
+          subst (Contains (x ∷ xs)) e (contains_first x xs),
+          subst (λ u. IsTrue (p u)) e passed,
+        )
+        | inr later ↦ (let h = rest.0 later in
+            (contains_later x xs t h.0, h.1))
+      ],
+      λ h. elim (contains_cases x xs t h.0) [
+        | inl e ↦ subst (Contains (x ∷ filter p xs)) e (contains_first x (filter p xs))
+        | inr later ↦
+            contains_later x (filter p xs) t (rest.1 (later, h.1))
+      ],
+    )
+    at rest false failed = (
+      λ c. (let h = rest.0 c in (contains_later x xs t h.0, h.1)),
+      λ h. elim (contains_cases x xs t h.0) [
+        | inl e ↦ absurd (false≢true (sym failed ∙ subst (λ u. IsTrue (p u)) (sym e) h.1))
+        | inr later ↦ rest.1 (later, h.1)
+      ],
+    )
 
 -- a relation of members that their images keep
 pub pairs_map : {X Y : Type 0} (R : X → X → Type 0) (S : Y → Y → Type 0) (f : X → Y) (xs : List X)

@@ -91,18 +91,16 @@ module _ {N : Type 0} where
 
   pub past_of_more : (before : List (PlacedLine N)) (line : PlacedLine N)
       → past_of (before ++ line ∷ []) ≡ line.number + 1
-  past_of_more [] line = refl
-  past_of_more (first ∷ []) line = refl
   past_of_more (first ∷ second ∷ before) line = past_of_more (second ∷ before) line
+  past_of_more lines line = refl
 
   -- after a line
   pub next_line_of_more : (script : List (Item N)) (before : List (PlacedLine N))
       (line : PlacedLine N) → next_line_of script (before ++ line ∷ [])
       ≡ first_from (lets_through line.reply) (line.number + 1) (drop (line.number + 1) script)
-  next_line_of_more script [] line = refl
-  next_line_of_more script (first ∷ []) line = refl
   next_line_of_more script (first ∷ second ∷ before) line =
       next_line_of_more script (second ∷ before) line
+  next_line_of_more script lines line = refl
 
   -- the next line is one of the script, after the last line
   pub next_line_from : (script : List (Item N)) (own : List (PlacedLine N)) (next : Numbered N)

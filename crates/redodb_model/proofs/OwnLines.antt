@@ -30,10 +30,8 @@ same_both false h = refl
 
 -- nobody builds what isn't building
 pub not_built : (a : TargetState) (s : ℕ) → is_building a ≡ false → is_built_by s a ≡ false
-not_built Idle s e = refl
 not_built (Building b) s e = absurd (cc)
-not_built Built s e = refl
-not_built states.Failed s e = refl
+not_built state s e = refl
 
 -- a session doesn't build what another one builds
 built_by_other : (a : TargetState) (c s : ℕ) → not (is_built_by c a) ≡ false → eqb c s ≡ false

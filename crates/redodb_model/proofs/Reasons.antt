@@ -9,9 +9,8 @@ use Rattle.redodb_model.specs.Why.{Reason, Building, Failed, Edited, Always, App
 module _ {N : Type 0} (r : Records N) (t : N) where
   building_has_reason : (state : TargetState) → IsTrue (is_building state) → ReasonIn state r t
   building_has_reason states.Idle is = false≢true is
-  building_has_reason (states.Building s) is = tt
   building_has_reason states.Built is = absurd (false≢true is)
-  building_has_reason states.Failed is = tt
+  building_has_reason state is = tt
 
   built_has_reason : target_state r t ≡ states.Built
       → IsEdited r t ⊎ (IsTrue (r.rows.always t) ⊎ (SomeAppeared r t ⊎ SomeChanged r t))

@@ -6,7 +6,7 @@ use Rattle.std.specs.Prelude.{◌==◌}
 use Rattle.std.specs.declared.cmp.Ordering.{Ordering}
 use Rattle.redodb_model.specs.Names.{Naming, put, numbers}
 use Rattle.redodb_model.specs.Support.Names.{IsNaming}
-use Rattle.redodb_model.specs.State.{Records, Cell, TargetState, Idle, Building, Built, Failed, target_state, idle, mark_of, mark_in, has_file}
+use Rattle.redodb_model.specs.State.{Records, Cell, TargetState, Idle, Built, target_state, idle, mark_of, mark_in, has_file}
 use Rattle.redodb_model.specs.OutOfDate.{IsTarget, ReasonIn, HasReason, Chain, Depends, OutOfDate}
 use Rattle.redodb_model.specs.Support.Renaming.{Renaming, IsRenaming, value_at, named_records, IsWithin}
 
@@ -114,8 +114,6 @@ module _ {M : Type 0} {to : Renaming M} (law : IsRenaming to) where
       reason_in : (k : ℕ) → k < to.count → (state : TargetState) → ReasonIn state r k
           → ReasonIn state (named_records to r) (to.name k)
       reason_in k below Idle h = absurd h
-      reason_in k below (Building s) h = tt
-      reason_in k below Failed h = tt
       reason_in k below Built (inl d) =
           inl (λ f. d (sym (ap (λ (c : Cell). c.file) (cell_at_name k below)) ∙ f
           ∙ ap (λ (c : Cell). c.done) (cell_at_name k below)))
@@ -133,6 +131,7 @@ module _ {M : Type 0} {to : Renaming M} (law : IsRenaming to) where
             change_at_names k n both.0 both.1 ∙ e,
             λ f. d (f ∙ mark_at_name n both.1),
           )))
+      reason_in k below state h = tt
 
       reason_to_name : (k : ℕ) → k < to.count → HasReason r k
           → HasReason (named_records to r) (to.name k)
@@ -154,8 +153,6 @@ module _ {M : Type 0} {to : Renaming M} (law : IsRenaming to) where
       reason_from : (k : ℕ) → k < to.count → (state : TargetState)
           → ReasonIn state (named_records to r) (to.name k) → ReasonIn state r k
       reason_from k below Idle h = absurd h
-      reason_from k below (Building s) h = tt
-      reason_from k below Failed h = tt
       reason_from k below Built (inl d) =
           inl (λ f. d (ap (λ (c : Cell). c.file) (cell_at_name k below) ∙ f
           ∙ sym (ap (λ (c : Cell). c.done) (cell_at_name k below))))
@@ -179,6 +176,7 @@ module _ {M : Type 0} {to : Renaming M} (law : IsRenaming to) where
                 ∙ sym
                 (ap (λ o. mark_in (value_at idle r.cell o).state (value_at idle r.cell o)) is)),
           )))
+      reason_from k below state h = tt
 
       reason_from_name : (k : ℕ) → k < to.count → HasReason (named_records to r) (to.name k)
           → HasReason r k

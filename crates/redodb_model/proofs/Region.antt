@@ -2,7 +2,7 @@
 use Rattle.std.proofs.Common.{◌≡◌, ◌⊎◌, ◌↔◌, ◌∙◌, Bool, List, [], ◌∷◌, IsTrue, refl, sym, subst, inl, inr}
 use Rattle.std.specs.Prelude.{IsSome, Contains}
 use Rattle.std.proofs.lemmas.Bool.{cases_Bool, false≢true}
-use Rattle.redodb_model.specs.State.{Records, Cell, TargetState, Idle, Building, Built, Failed, mark_in}
+use Rattle.redodb_model.specs.State.{Records, Cell, TargetState, Idle, Built, mark_in}
 use Rattle.redodb_model.specs.OutOfDate.{IsTarget, HasFile, HasRow, ReasonIn, HasReason, Depends, Chain, OutOfDate}
 use Rattle.redodb_model.specs.Support.OutOfDate.{TouchesSeed, InRegion, DifferAt}
 
@@ -56,9 +56,6 @@ module _ {N : Type 0} {seeds : List N} {old new : Records N} (d : DifferAt seeds
   reason_kept_in : (t : N) → (Contains seeds t → ⊥)
       → ((n : N) → HasRow old t n → old.cell n ≡ new.cell n)
       → (s : TargetState) → ReasonIn s old t → ReasonIn s new t
-  reason_kept_in t far same Idle reason = reason
-  reason_kept_in t far same (Building s) reason = reason
-  reason_kept_in t far same Failed reason = reason
   reason_kept_in t far same Built reason = elim reason [
     | inl edited ↦ inl (subst (λ (c : Cell). c.file ≡ c.done → ⊥) (d.cell t far) edited)
     | inr more ↦ inr (elim more [
@@ -80,6 +77,7 @@ module _ {N : Type 0} {seeds : List N} {old new : Records N} (d : DifferAt seeds
       ])
     ])
   ]
+  reason_kept_in t far same state reason = reason
 
   reason_kept : (t : N) → (Contains seeds t → ⊥)
       → ((n : N) → HasRow old t n → old.cell n ≡ new.cell n) → HasReason old t → HasReason new t
@@ -91,9 +89,7 @@ module _ {N : Type 0} {seeds : List N} {old new : Records N} (d : DifferAt seeds
 target_with_reason : {N : Type 0} (r : Records N) (t : N) (s : TargetState)
     → ReasonIn s r t → s ≡ Idle → ⊥
 target_with_reason r t Idle reason e = reason
-target_with_reason r t (Building s) reason e = cc
-target_with_reason r t Built reason e = cc
-target_with_reason r t Failed reason e = cc
+target_with_reason r t state reason e = cc
 
 module _ {N : Type 0} {seeds : List N} {old new : Records N} (d : DifferAt seeds old new) where
   -- outside of the region there is no seed, and no step leads into it
@@ -199,10 +195,6 @@ module _ {N : Type 0} {seeds : List N} {old new : Records N} (d : DifferAt seeds
     out_by_reason : (t : N) → (Contains seeds t → ⊥) → (s : TargetState) → (new.cell t).state ≡ s
         → ReasonIn s old t → OutOfDate new t
     out_by_reason t far Idle is reason = absurd reason
-    out_by_reason t far (Building by) is reason =
-        ([], subst (λ (s : TargetState). ReasonIn s new t) (sym is) tt)
-    out_by_reason t far Failed is reason =
-        ([], subst (λ (s : TargetState). ReasonIn s new t) (sym is) tt)
     out_by_reason t far Built is reason =
         let own : ReasonIn Built new t → OutOfDate new t =
         λ r. ([], subst (λ (s : TargetState). ReasonIn s new t) (sym is) r) in
@@ -230,6 +222,8 @@ module _ {N : Type 0} {seeds : List N} {old new : Records N} (d : DifferAt seeds
             ]
           ]
         ]
+    out_by_reason t far state is reason =
+        ([], subst (λ (s : TargetState). ReasonIn s new t) (sym is) tt)
 
     pub still_out : (ns : List N) (t : N) → Chain (Depends old) (HasReason old) t ns
         → OutOfDate new t

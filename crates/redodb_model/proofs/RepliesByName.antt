@@ -4,7 +4,7 @@ use Rattle.std.specs.List.{Contains}
 use Rattle.std.specs.declared.cmp.Ordering.{Ordering}
 use Rattle.std.specs.declared.cmp.Ordering.TheVariants.{Less}
 use Rattle.redodb_model.specs.Names.{Naming, numbers, IsListed}
-use Rattle.redodb_model.specs.Reply.{NotLocked, Building, NotBuilding, Itself, Exists, Reply, Okay, Granted, Busy, Stale, Stamped, Ood, Targets, Sources, Refused}
+use Rattle.redodb_model.specs.Reply.{Exists, Reply, Stale, Ood, Targets, Sources, Refused}
 use Rattle.redodb_model.specs.Renaming.{named_reply, AllBelow, IsReplyBelow}
 use Rattle.redodb_model.specs.Support.Renaming.{Renaming, IsRenaming, value_at, OrdersAlike}
 use Rattle.redodb_model.proofs.Members.{contains_map, contains_from_map, pairs_map}
@@ -47,19 +47,12 @@ module _ {M : Type 0} {to : Renaming M} (law : IsRenaming to) where
 
   reply_back : (reply : Reply ℕ) → IsReplyBelow to.count reply
       → named_reply (number_of to) (named_reply to.name reply) ≡ reply
-  reply_back Okay below = refl
-  reply_back (Granted grants) below = refl
-  reply_back (Busy grants) below = refl
   reply_back (Stale ns) below = ap Stale (list_back ns below)
-  reply_back (Stamped digest) below = refl
   reply_back (Ood ns) below = ap Ood (list_back ns below)
   reply_back (Targets ns) below = ap Targets (list_back ns below)
   reply_back (Sources ns) below = ap Sources (list_back ns below)
-  reply_back (Refused NotLocked) below = refl
-  reply_back (Refused Building) below = refl
-  reply_back (Refused NotBuilding) below = refl
-  reply_back (Refused Itself) below = refl
   reply_back (Refused (Exists m)) below = ap (λ j. Refused (Exists j)) (number_of_name m below)
+  reply_back reply below = refl
 
   -- two replies over numbers are equal exactly if they are equal over the names
   pub same_reply : (a b : Reply ℕ) → IsReplyBelow to.count a → IsReplyBelow to.count b

@@ -5,7 +5,7 @@ use Rattle.std.proofs.lemmas.Option.{none-some}
 use Rattle.std.proofs.lemmas.Simd.{map-map}
 use Rattle.redodb_model.specs.Names.{Naming}
 use Rattle.redodb_model.specs.Command.{Command, Item}
-use Rattle.redodb_model.specs.Reply.{Reply, Okay, Granted, Busy, Stale, Stamped, Ood, Targets, Sources, Refused, lets_through}
+use Rattle.redodb_model.specs.Reply.{Reply, Okay, lets_through}
 use Rattle.redodb_model.specs.History.{Line}
 use Rattle.redodb_model.specs.Placed.{PlacedLine, line_of}
 use Rattle.redodb_model.specs.Journals.{Numbered, first_from, next_line_of, numbered, IsWholeJournal}
@@ -106,14 +106,7 @@ module _ {N : Type 0} (naming : Naming N) (s : ℕ) (script : List (Item N)) whe
 module _ {N M : Type 0} (name : N → M) where
   pub lets_named : (reply : Reply N) → lets_through (named_reply name reply) ≡ lets_through reply
   lets_named Okay = refl
-  lets_named (Granted g) = refl
-  lets_named (Busy g) = refl
-  lets_named (Stale ns) = refl
-  lets_named (Stamped digest) = refl
-  lets_named (Ood ns) = refl
-  lets_named (Targets ns) = refl
-  lets_named (Sources ns) = refl
-  lets_named (Refused refusal) = refl
+  lets_named reply = refl
 
   cond_named : (b : Bool) (xs ys : List (Command N)) (us vs : List (Command M))
       → us ≡ map (named_command name) xs → vs ≡ map (named_command name) ys

@@ -8,7 +8,7 @@ use Rattle.redodb_model.specs.Names.{Naming, put, numbers}
 use Rattle.redodb_model.specs.Support.Names.{IsNaming}
 use Rattle.redodb_model.specs.State.{State, Locks, Records, Cell, Building, Built, Mark, idle, mark_of, mark_in}
 use Rattle.redodb_model.specs.State as states
-use Rattle.redodb_model.specs.Command.{Command, File, Gone, Lock, Unlock, Start, IfChange, IfCreate, Always, Stamp, Done, Failed, Ood, Targets, Sources}
+use Rattle.redodb_model.specs.Command.{Command, File, Gone, Lock, Unlock, Start, IfChange, IfCreate, Always, Stamp, Done, Failed}
 use Rattle.redodb_model.specs.Reply.{Refusal}
 use Rattle.redodb_model.specs.Step.{verdict_of, effect_of, after, is_among, unless_refused, locks_after, locks_granted, locks_freed, holds_target}
 use Rattle.redodb_model.specs.Renaming.{named_command, named_refusal, IsBelow, AllBelow}
@@ -107,8 +107,6 @@ module _ {M : Type 0} {to : Renaming M} (law : IsRenaming to) (naming : Naming M
         ≡ effect_of naming (named_records to r) s (named_command to.name command)
     effect_by_name s (File n stamp) below = cell_put n (λ c. record c { file = Some stamp }) below.0
     effect_by_name s (Gone n) below = cell_put n (λ c. record c { file = None }) below.0
-    effect_by_name s (Lock t) below = refl
-    effect_by_name s (Unlock t) below = refl
     effect_by_name s (Start t) below =
         let started : Cell → Cell = λ c. record c { state = Building s; digest = None } in
         let cells =
@@ -150,9 +148,7 @@ module _ {M : Type 0} {to : Renaming M} (law : IsRenaming to) (naming : Naming M
         cell_put t
         (λ c. record c { state = Built; builds = c.builds + 1; file = stamp; done = stamp }) below.0
     effect_by_name s (Failed t) below = cell_put t (λ c. record c { state = states.Failed }) below.0
-    effect_by_name s Ood below = refl
-    effect_by_name s Targets below = refl
-    effect_by_name s Sources below = refl
+    effect_by_name s command below = refl
 
   -- the locks after a lock is granted
   granted_by_name : (o : Option ℕ) (locks : Locks ℕ) (s t : ℕ) → t < to.count

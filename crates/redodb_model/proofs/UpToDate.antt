@@ -84,12 +84,8 @@ module _ {N : Type 0} {naming : Naming N} (law : IsNaming naming) where
   )
     where
       ascending : Ascending naming (x ∷ y ∷ [])
-      ascending zero zero d before below = absurd (omega arith)
       ascending zero (suc zero) d before below = less
-      ascending zero (suc (suc j)) d before below = absurd (omega arith)
-      ascending (suc i) zero d before below = absurd (omega arith)
-      ascending (suc i) (suc zero) d before below = absurd (omega arith)
-      ascending (suc i) (suc (suc j)) d before below = absurd (omega arith)
+      ascending i j d before below = absurd (omega arith)
 
   -- a lone name that isn't stale
   pub none_stale : (r : Records N) (x : N) → (IsStale r x → ⊥)

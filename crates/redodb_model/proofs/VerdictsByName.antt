@@ -5,7 +5,7 @@ use Rattle.std.specs.declared.cmp.Ordering.{Ordering}
 use Rattle.redodb_model.specs.Names.{Naming, numbers}
 use Rattle.redodb_model.specs.Support.Names.{IsNaming}
 use Rattle.redodb_model.specs.State.{Locks, Records, has_file, target_state, is_building}
-use Rattle.redodb_model.specs.Command.{Command, File, Gone, Lock, Unlock, Start, IfChange, IfCreate, Always, Stamp, Done, Failed, Ood, Targets, Sources}
+use Rattle.redodb_model.specs.Command.{Command, Lock, Unlock, Start, IfChange, IfCreate, Always, Stamp, Done, Failed}
 use Rattle.redodb_model.specs.Reply.{Refusal, NotLocked, Building, NotBuilding, Itself, Refused}
 use Rattle.redodb_model.specs.Step.{verdict_of, is_among, refusal_or, refusal_of_existing, is_built_by, holds_target, is_held_by}
 use Rattle.redodb_model.specs.Renaming.{named_command, named_refusal, IsBelow, AllBelow, IsReplyBelow}
@@ -46,8 +46,6 @@ module _ {M : Type 0} {to : Renaming M} (law : IsRenaming to) where
   pub holds_by_name : (locks : Locks ℕ) (s : ℕ) (command : Command ℕ) → IsBelow to.count command
       → holds_target (named_locks to locks) s (named_command to.name command)
       ≡ holds_target locks s command
-  holds_by_name locks s (File n stamp) below = refl
-  holds_by_name locks s (Gone n) below = refl
   holds_by_name locks s (Lock t) below = held_by_name locks s t below.0
   holds_by_name locks s (Unlock t) below = held_by_name locks s t below.0
   holds_by_name locks s (Start t) below = held_by_name locks s t below.0
@@ -57,9 +55,7 @@ module _ {M : Type 0} {to : Renaming M} (law : IsRenaming to) where
   holds_by_name locks s (Stamp t content) below = held_by_name locks s t below.0
   holds_by_name locks s (Done t stamp) below = held_by_name locks s t below.0
   holds_by_name locks s (Failed t) below = held_by_name locks s t below.0
-  holds_by_name locks s Ood below = refl
-  holds_by_name locks s Targets below = refl
-  holds_by_name locks s Sources below = refl
+  holds_by_name locks s command below = refl
 
   module _ (r : Records ℕ) where
     -- the first name with a file

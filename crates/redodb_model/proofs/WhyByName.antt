@@ -38,13 +38,10 @@ module _ {M : Type 0} {to : Renaming M} (law : IsRenaming to) (r : Records ℕ)
 
     reason_below : (k : ℕ) (reason : Reason ℕ) → IsReason r k reason
         → IsReasonBelow to.count reason
-    reason_below k Building is = tt
-    reason_below k Failed is = tt
-    reason_below k Edited is = tt
-    reason_below k Always is = tt
     reason_below k (Appeared n) (built, row, file) = (within.createds k n row).1
     reason_below k (Changed n) (built, (mark, row, other)) =
         (within.changes k n (ap is_some row)).1
+    reason_below k reason is = tt
 
     pub why_below : (k : ℕ) (why : Why ℕ) → Explains r k why → IsWhyBelow to.count why
     why_below k why explains = record {

@@ -7,7 +7,7 @@ use Rattle.sha1.specs.Sha1.{sha1}
 use Rattle.redodb_model.specs.Names.{put, numbers}
 use Rattle.redodb_model.specs.State.{State, Records, Cell, Building, Built, idle, mark_of, empty}
 use Rattle.redodb_model.specs.State as states
-use Rattle.redodb_model.specs.Command.{Command, File, Gone, Lock, Unlock, Start, IfChange, IfCreate, Always, Stamp, Done, Failed, Ood, Targets, Sources}
+use Rattle.redodb_model.specs.Command.{Command, File, Gone, Start, IfChange, IfCreate, Always, Stamp, Done, Failed}
 use Rattle.redodb_model.specs.Reply.{Refusal}
 use Rattle.redodb_model.specs.Step.{verdict_of, effect_of, after, is_among, unless_refused, holds_target, with_cell}
 use Rattle.redodb_model.specs.Renaming.{IsBelow, AllBelow}
@@ -60,8 +60,6 @@ module _ (count : ℕ) (order : ℕ → ℕ → Ordering) where
     within_effect s (File n stamp) below =
         within_with_cell n (record (r.cell n) { file = Some stamp }) below.0
     within_effect s (Gone n) below = within_with_cell n (record (r.cell n) { file = None }) below.0
-    within_effect s (Lock t) below = within
-    within_effect s (Unlock t) below = within
     within_effect s (Start t) below = record {
       cells = cell_put_past t (record (r.cell t) { state = Building s; digest = None }) below.0;
       changes = λ k m h. row_put_below is_some t (λ n. None) r.rows.change below.0
@@ -105,9 +103,7 @@ module _ (count : ℕ) (order : ℕ → ℕ → Ordering) where
         }) below.0
     within_effect s (Failed t) below =
         within_with_cell t (record (r.cell t) { state = states.Failed }) below.0
-    within_effect s Ood below = within
-    within_effect s Targets below = within
-    within_effect s Sources below = within
+    within_effect s command below = within
 
     within_unless : (v : Option (Refusal ℕ)) (new : Records ℕ) → IsWithin count new
         → IsWithin count (unless_refused v r new)

@@ -5,12 +5,9 @@ use Rattle.redodb_model.specs.Why.{Reason, Building, Failed, Edited, Always, App
 
 -- the name in the reason, if there is one, is below n
 abbrev pub IsReasonBelow : ℕ → Reason ℕ → Type 0
-IsReasonBelow n Building = ⊤
-IsReasonBelow n Failed = ⊤
-IsReasonBelow n Edited = ⊤
-IsReasonBelow n Always = ⊤
 IsReasonBelow n (Appeared k) = k < n
 IsReasonBelow n (Changed k) = k < n
+IsReasonBelow n reason = ⊤
 
 -- all names in the answer are below n
 pub record IsWhyBelow (n : ℕ) (why : Why ℕ) : Type 0 where

@@ -38,8 +38,7 @@ returns-clause-listed c =
     listed_all (IsSet flags) (c.loop-k.k * 64) c.loop-k.list.items
     (λ t on. omega (
       arith,
-      below_count c.self.inside.words.items c.self.inside.count t flags c.self.view_is
-          (marked_below flags t on),
+      below_count t c.self.invariant c.self.view_is (marked_below flags t on),
       c.self.invariant.enough,
       c.self.inside.words.ok.0,
       c.len-k-end.ensures,

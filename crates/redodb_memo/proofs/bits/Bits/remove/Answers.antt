@@ -1,40 +1,25 @@
-use Rattle.std.proofs.Common.{◌/◌, refl, ◌∙◌, Bool, List, false, set, ap, arith}
-use Rattle.redodb_memo.proofs.Words.{bit_removed, flag_changed, none_past_still, word_within, below_count}
+use Rattle.std.proofs.Common.{◌/◌, ◌∙◌, refl, arith}
+use Rattle.redodb_memo.proofs.Words.{bit_removed, flag_changed, none_past_still, word_within}
 use Rattle.redodb_memo.proofs.bits.Bits.remove.Goals as goal
 
 pub index_mut-requires : goal.index_mut-requires
-index_mut-requires c = omega (
-  arith,
-  c.self.inside.words.ok.0,
-  word_within c.self.inside.words.items c.self.inside.count c.args.t (c.args.t / 64)
-      c.args.self.now c.self.invariant.enough c.self.view_is c.requires refl,
-)
+index_mut-requires c =
+    let t = c.args.t in
+    let in' = word_within t c.self.invariant c.self.view_is c.requires (t / 64) refl in
+    omega (arith, in', c.self.inside.words.ok.0)
 
 pub invariant_of-self : goal.invariant_of-self
 invariant_of-self c =
-    let words = c.self.inside.words.items in
-    let count = c.self.inside.count in
     let t = c.args.t in
-    let in' =
-    word_within words count t (t / 64) c.args.self.now c.self.invariant.enough c.self.view_is
-    c.requires refl in
-    let changed = bit_removed words t c.index_mut.result.now in' c.index_mut.ensures.value in
-    let below = below_count words count t c.args.self.now c.self.view_is c.requires in
+    let changed = bit_removed t c.self.invariant c.self.view_is c.requires c.index_mut.ensures.value in
     record {
       enough = changed.sized ∙ c.self.invariant.enough;
-      none_past = none_past_still count below changed c.self.invariant.none_past;
+      none_past = none_past_still t c.self.invariant c.self.view_is c.requires changed;
       few = c.self.invariant.few;
     }
 
 pub returns : goal.returns
 returns c =
-    let words = c.self.inside.words.items in
-    let count = c.self.inside.count in
     let t = c.args.t in
-    let in' =
-    word_within words count t (t / 64) c.args.self.now c.self.invariant.enough c.self.view_is
-    c.requires refl in
-    let changed = bit_removed words t c.index_mut.result.now in' c.index_mut.ensures.value in
-    let below = below_count words count t c.args.self.now c.self.view_is c.requires in
-    flag_changed count below changed
-    ∙ ap (λ (flags : List Bool). set flags t false) c.self.view_is
+    flag_changed t c.self.invariant c.self.view_is c.requires
+    (bit_removed t c.self.invariant c.self.view_is c.requires c.index_mut.ensures.value)

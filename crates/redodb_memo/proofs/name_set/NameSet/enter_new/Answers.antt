@@ -1,6 +1,6 @@
-use Rattle.std.proofs.Common.{◌<◌, ◌≡◌, true, false, get_or, length, sym, ap, subst, arith}
+use Rattle.std.proofs.Common.{true, length, ap, arith}
 use Rattle.std.proofs.lemmas.List.{length-set}
-use Rattle.redodb_memo.specs.NameSet.{Marked, size_of}
+use Rattle.redodb_memo.specs.NameSet.{Marked}
 use Rattle.redodb_memo.specs.Support.KeptNames.{marked_of}
 use Rattle.redodb_memo.proofs.Marking.{queue_with_name}
 use Rattle.redodb_memo.proofs.name_set.NameSet.enter_new.Goals as goal
@@ -9,9 +9,8 @@ pub invariant_of-self : goal.invariant_of-self
 invariant_of-self c =
     let m : Marked = marked_of c.self.inside in
     let t = c.args.t in
-    let below = subst (λ (k : Marked). t < size_of k) (sym c.self.view_is) c.requires.below in
-    let off = subst (λ (k : Marked). get_or k.marks t false ≡ false) (sym c.self.view_is)
-    c.requires.unmarked in
+    let below = rw (← c.self.view_is) at c.requires.below in
+    let off = rw (← c.self.view_is) at c.requires.unmarked in
     let sized = length-set m.marks t true in
     let pushed = c.push_reserved.ensures in
     record {
