@@ -170,42 +170,42 @@ cleared_set targets t below =
     })
 
 -- the same in the terms of the code
-pub change_written : (targets now : List TargetRows) (t n : ℕ) (old new : TargetRows) (mark : Mark)
-    → targets ≡ now → t < length now → old ≡ get_or targets t old → WritesChange old new n mark
+pub change_written : {targets now : List TargetRows} {old : TargetRows} (t n : ℕ) (new : TargetRows)
+    (mark : Mark) → targets ≡ now → t < length now → old ≡ get_or targets t old → WritesChange old new n mark
     → rows_of (set targets t new) ≡ with_change (rows_of now) t n mark
-change_written targets now t n old new mark is t_in at w =
-    let found = found_target targets now t old is t_in at in
+change_written {targets} t n new mark is t_in at w =
+    let found = found_target t is t_in at in
     change_set targets t n new mark found.0 (subst (λ x. WritesChange x new n mark) found.1 w)
     ∙ ap (λ ts. with_change (rows_of ts) t n mark) is
 
-pub created_written : (targets now : List TargetRows) (t n : ℕ) (old new : TargetRows)
+pub created_written : {targets now : List TargetRows} {old : TargetRows} (t n : ℕ) (new : TargetRows)
     → targets ≡ now → t < length now → old ≡ get_or targets t old → WritesCreated old new n
     → rows_of (set targets t new) ≡ with_created (rows_of now) t n
-created_written targets now t n old new is t_in at w =
-    let found = found_target targets now t old is t_in at in
+created_written {targets} t n new is t_in at w =
+    let found = found_target t is t_in at in
     created_set targets t n new found.0 (subst (λ x. WritesCreated x new n) found.1 w)
     ∙ ap (λ ts. with_created (rows_of ts) t n) is
 
-pub slot_added_rows : (targets now : List TargetRows) (t n : ℕ) (old new : TargetRows)
+pub slot_added_rows : {targets now : List TargetRows} {old : TargetRows} (t n : ℕ) (new : TargetRows)
     → targets ≡ now → t < length now → old ≡ get_or targets t old → AddsSlot old new n
     → rows_of (set targets t new) ≡ rows_of now
-slot_added_rows targets now t n old new is t_in at w =
-    let found = found_target targets now t old is t_in at in
+slot_added_rows {targets} t n new is t_in at w =
+    let found = found_target t is t_in at in
     rows_stay targets t n new found.0 (subst (λ x. AddsSlot x new n) found.1 w) ∙ ap rows_of is
 
-pub rows_cleared : (targets now : List TargetRows) (t : ℕ) (old new : TargetRows) → targets ≡ now
+pub rows_cleared : {targets now : List TargetRows} {old new : TargetRows} (t : ℕ) → targets ≡ now
     → t < length now → old ≡ get_or targets t old → new ≡ cleared old
     → rows_of (set targets t new) ≡ without_rows (rows_of now) t
-rows_cleared targets now t old new is t_in at blank =
-    let found = found_target targets now t old is t_in at in
+rows_cleared {targets} {now} {old} {new} t is t_in at blank =
+    let found = found_target t is t_in at in
     ap (λ x. rows_of (set targets t x)) (blank ∙ ap cleared found.1)
     ∙ (cleared_set targets t found.0 ∙ ap (λ ts. without_rows (rows_of ts) t) is)
 
-pub room_cleared : (targets now : List TargetRows) (t : ℕ) (old new : TargetRows) → targets ≡ now
+pub room_cleared : {targets now : List TargetRows} {old new : TargetRows} (t : ℕ) → targets ≡ now
     → t < length now → old ≡ get_or targets t old → new ≡ cleared old
     → (u k : ℕ) → room_of (set targets t new) u k ≡ room_of now u k
-room_cleared targets now t old new is t_in at blank u k =
-    let found = found_target targets now t old is t_in at in
+room_cleared {targets} {now} {old} {new} t is t_in at blank u k =
+    let found = found_target t is t_in at in
     each_target (λ x. has_slot x.slots k) (λ v. room_of targets v k) targets t new found.0
     (ap (λ (x : TargetRows). has_slot x.slots k) (blank ∙ ap cleared found.1)
     ∙ has_slot-blanked (target_at targets t).slots k) (λ v off. refl) u

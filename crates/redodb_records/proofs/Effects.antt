@@ -1,7 +1,7 @@
 -- Writes at one place, and rows that are written one by one: the command's effect on the records that they make up.
 use Rattle.std.proofs.Common.{◌≡◌, ℕ, ◌+◌, ◌<◌, ◌==◌, Bool, true, false, cond, ◌||◌, List, Option, Some, length, get_or, set, take, refl, sym, ap, ◌∙◌, inl, inr}
 use Rattle.std.proofs.Math.Path.{fun_ext}
-use Rattle.std.proofs.lemmas.Bool.{cases_eq, eq-eqb, ne_eqb}
+use Rattle.std.proofs.lemmas.Bool.{cases_eq, eq-eqb, ne_eqb, or_left, or_right}
 use Rattle.std.proofs.lemmas.Grind.{get_or-set_at}
 use Rattle.std.proofs.lemmas.List.{get_or-set_other}
 use Rattle.std.proofs.lemmas.List.Folds.{list_any_more}
@@ -25,24 +25,16 @@ put_again : {X : Type 0} (b : Bool) (x y z : X) → cond b x (cond b y z) ≡ co
 put_again true x y z = refl
 put_again false x y z = refl
 
-or_true : (b : Bool) → b || true ≡ true
-or_true true = refl
-or_true false = refl
-
 or_false : (b : Bool) → b || false ≡ b
 or_false true = refl
 or_false false = refl
-
-or_last : (a b : Bool) → (a || true) || b ≡ true
-or_last true b = refl
-or_last false b = refl
 
 -- the value x at n, over the values y where b is true
 one_more : {X : Type 0} (n k : ℕ) (b : Bool) (x y z : X) → (n ≡ k → x ≡ y)
     → cond (n == k) x (cond b y z) ≡ cond (b || (n == k)) y z
 one_more n k b x y z same = elim (cases_eq n k) [
   | inl e ↦ ap (λ c. cond c x (cond b y z)) (eq-eqb n k e) ∙ same e
-      ∙ ap (λ c. cond c y z) (sym (or_true b)) ∙ ap (λ c. cond (b || c) y z) (sym (eq-eqb n k e))
+      ∙ ap (λ c. cond c y z) (sym (or_right b true refl)) ∙ ap (λ c. cond (b || c) y z) (sym (eq-eqb n k e))
   | inr ne ↦ ap (λ c. cond c x (cond b y z)) (ne_eqb n k ne)
       ∙ ap (λ c. cond c y z) (sym (or_false b)) ∙ ap (λ c. cond (b || c) y z) (sym (ne_eqb n k ne))
 ]
@@ -50,7 +42,7 @@ one_more n k b x y z same = elim (cases_eq n k) [
 -- the value `true` at n, over those where b is true
 true_more : (n k : ℕ) (a b : Bool) → cond (n == k) true (a || b) ≡ (a || (n == k)) || b
 true_more n k a b = elim (cases_eq n k) [
-  | inl e ↦ ap (λ c. cond c true (a || b)) (eq-eqb n k e) ∙ sym (or_last a b)
+  | inl e ↦ ap (λ c. cond c true (a || b)) (eq-eqb n k e) ∙ sym (or_left (a || true) b (or_right a true refl))
       ∙ ap (λ c. (a || c) || b) (sym (eq-eqb n k e))
   | inr ne ↦ ap (λ c. cond c true (a || b)) (ne_eqb n k ne) ∙ ap (λ c. c || b) (sym (or_false a))
       ∙ ap (λ c. (a || c) || b) (sym (ne_eqb n k ne))

@@ -72,8 +72,8 @@ pub record IsTakenOut (test : Slot → Bool) (targets : List TargetRows) (t : �
       (numbers_at new n)
   pub later : (n : ℕ) → has_slot rest n ≡ true → numbers_at new n ≡ numbers_at old n
 
-module _ (test : Slot → Bool) (blank : IsRowTest test) (targets : List TargetRows) (t : ℕ)
-    (old : List NumberList) (inverse : IsInverse test targets old)
+module _ {targets : List TargetRows} {old : List NumberList} (test : Slot → Bool)
+    (blank : IsRowTest test) (t : ℕ) (inverse : IsInverse test targets old)
   where
     -- before the first slot
     pub taken_begins : IsTakenOut test targets t (slots_at targets t) old old
@@ -89,9 +89,9 @@ module _ (test : Slot → Bool) (blank : IsRowTest test) (targets : List TargetR
     }
 
     -- after the last, the inverse is that of the rows without t's
-    pub all_taken : (new : List NumberList) → t < length targets
+    pub all_taken : {new : List NumberList} → t < length targets
         → IsTakenOut test targets t [] old new → IsInverse test (cleared_at targets t) new
-    all_taken new below taken =
+    all_taken {new} below taken =
         let is : TargetRows = cleared (target_at targets t) in
         let count : length (set targets t is) ≡ length targets = length-set targets t is in
         record {
@@ -142,18 +142,18 @@ read_slots : (targets : List TargetRows) (t : ℕ) (target : TargetRows) (slots 
 read_slots targets t target slots below at is =
     is ∙ ap (λ (x : TargetRows). x.slots) (at ∙ get_or_default targets t target bare below)
 
-pub all_slots : (targets : List TargetRows) (t i : ℕ) (target : TargetRows) (slots : List Slot)
+pub all_slots : {target : TargetRows} {slots : List Slot} (targets : List TargetRows) (t i : ℕ)
     → t < length targets → target ≡ get_or targets t target → slots ≡ target.slots
     → length slots ≤ i → drop i (slots_at targets t) ≡ []
-all_slots targets t i target slots below at is end =
+all_slots {target} {slots} targets t i below at is end =
     ap (drop i) (sym (read_slots targets t target slots below at is)) ∙ drop_all i slots end
 
-pub at_slot : (test : Slot → Bool) (targets : List TargetRows) (t i : ℕ) (target : TargetRows)
-    (slots : List Slot) (slot : Slot) (n : ℕ) (was : Bool) → t < length targets
+pub at_slot : {target : TargetRows} {slots : List Slot} {slot : Slot} {n : ℕ} {was : Bool}
+    (test : Slot → Bool) (targets : List TargetRows) (t i : ℕ) → t < length targets
     → target ≡ get_or targets t target → slots ≡ target.slots
     → AllPairs (λ x y. x.name < y.name) slots → i < length slots → slot ≡ get_or slots i slot
     → n ≡ slot.name → was ≡ test slot → AtSlot test targets t i n was
-at_slot test targets t i target slots slot n was below at is rise in' found name row =
+at_slot {target} {slots} {slot} {n} {was} test targets t i below at is rise in' found name row =
     let e = read_slots targets t target slots below at is in
     subst (λ m. AtSlot test targets t i m was) (sym name)
     (subst (AtSlot test targets t i slot.name) (sym row) (at_own test targets t i slot
@@ -161,8 +161,8 @@ at_slot test targets t i target slots slot n was below at is rise in' found name
     (subst (λ ss. i < length ss) e in')
     (subst (λ ss. slot ≡ get_or ss i slot) e found)))
 
-module _ (test : Slot → Bool) (targets : List TargetRows) (t i n : ℕ) (was : Bool)
-    (at : AtSlot test targets t i n was) (old mid : List NumberList)
+module _ {test : Slot → Bool} {targets : List TargetRows} {t i n : ℕ} {was : Bool}
+    (at : AtSlot test targets t i n was) {old mid : List NumberList}
     (taken : IsTakenOut test targets t (drop i (slots_at targets t)) old mid)
   where
     has_later : ℕ → Bool
@@ -190,10 +190,10 @@ module _ (test : Slot → Bool) (targets : List TargetRows) (t i n : ℕ) (was :
         )
 
     -- the lists after it
-    pub slot_taken : (new : List NumberList) → FollowsOn n t was false mid new
+    pub slot_taken : {new : List NumberList} → FollowsOn n t was false mid new
         → IsTakenOut test targets t (drop (i + 1) (slots_at targets t)) old new
     unfolding has_later
-    slot_taken new f = record {
+    slot_taken {new} f = record {
       sized = f.sized ∙ taken.sized;
       out = λ k in' none. elim (cases_eq n k) [
         | inl e ↦
@@ -212,15 +212,15 @@ module _ (test : Slot → Bool) (targets : List TargetRows) (t i n : ℕ) (was :
     }
 
 -- t has no rows
-pub kept_cleared : (targets now : List TargetRows) (t : ℕ) (old new : TargetRows)
-    (needed awaited needed' awaited' : List NumberList) (slotted : List ℕ) → targets ≡ now
+pub kept_cleared : {targets now : List TargetRows} {old new : TargetRows}
+    {needed awaited needed' awaited' : List NumberList} {slotted : List ℕ} (t : ℕ) → targets ≡ now
     → t < length now → old ≡ get_or targets t old → new ≡ cleared old
     → IsInverse has_change (cleared_at targets t) needed'
     → IsInverse has_created (cleared_at targets t) awaited'
     → IsKept targets needed awaited slotted → IsKept (set targets t new) needed' awaited' slotted
-kept_cleared targets now t old new needed awaited needed' awaited' slotted is t_in at blank needs
-    awaits h =
-    let found = found_target targets now t old is t_in at in
+kept_cleared {targets} {now} {old} {new} {needed} {awaited} {needed'} {awaited'} {slotted} t is t_in
+    at blank needs awaits h =
+    let found = found_target t is t_in at in
     let is_new : cleared (target_at targets t) ≡ new = sym (blank ∙ ap cleared found.1) in
     let sits : (k : ℕ) → sits_on k new ≡ sits_on k (target_at targets t) =
     λ k. ap (sits_on k) (sym is_new) ∙ has_slot-blanked (target_at targets t).slots k in

@@ -24,10 +24,10 @@ pub target_other : (targets : List TargetRows) (t u : ℕ) (new : TargetRows) �
 target_other targets t u new off = get_or-set_other targets t u new bare off
 
 -- the target that the code finds at t
-pub found_target : (targets now : List TargetRows) (t : ℕ) (old : TargetRows) → targets ≡ now
+pub found_target : {targets now : List TargetRows} {old : TargetRows} (t : ℕ) → targets ≡ now
     → t < length now → old ≡ get_or targets t old
     → (t < length targets) × (old ≡ target_at targets t)
-found_target targets now t old is t_in at =
+found_target {targets} {now} {old} t is t_in at =
     let below : t < length targets =
     subst (λ (ts : List TargetRows). t < length ts) (sym is) t_in in
     (below, at ∙ get_or_default targets t old bare below)

@@ -8,7 +8,7 @@ use Rattle.std.proofs.lemmas.List.Kept.{AllPairs-filter}
 use Rattle.std.specs.List.{Any, Contains, insert, filter}
 use Rattle.std.specs.List.Sorted.{IsSearchInRange, IsBinarySearchResult}
 use Rattle.std.specs.Ordering.{nat_cmp}
-use Rattle.redodb_model.proofs.Members.{contains_first, contains_later, contains_cases, contains_none, pairs_map}
+use Rattle.redodb_model.proofs.Members.{contains_first, contains_later, contains_cases, contains_none, contains_filter, pairs_map}
 use Rattle.redodb_records.specs.Numbers.{Place, Rising, numbers_there}
 use Rattle.redodb_records.specs.Support.Numbers.{InOrder, IsPlaceOf, IsGapFor, HasOneMore}
 use Rattle.redodb_records.proofs.Ordered.{searched_by, set_in_order}
@@ -200,29 +200,13 @@ kept_there ps = ap (map (λ (p : Place). p.number)) (filter_twice (λ (p : Place
 pub kept_length : (ps : List Place) → length (without_empty ps) ≡ length (numbers_there ps)
 kept_length ps = sym (length-map (without_empty ps) (λ (p : Place). p.number))
 
-contains_kept : {X : Type 0} (test : X → Bool) (xs : List X) (x : X) → Contains (filter test xs) x
-    → Contains xs x
-contains_kept test [] x c = c
-contains_kept {X = X} test (y ∷ ys) x c = elim (cases_Bool (test y)) [
-  | inl on ↦
-      let c' : Contains (y ∷ filter test ys) x =
-      subst (λ b. Contains (cond b (y ∷ filter test ys) (filter test ys)) x) on c in
-      elim (contains_cases y (filter test ys) x c') [
-        | inl e ↦ subst (Contains (y ∷ ys)) e (contains_first y ys)
-        | inr later ↦ contains_later y ys x (contains_kept test ys x later)
-      ]
-  | inr off ↦
-      contains_later y ys x (contains_kept test ys x
-      (subst (λ b. Contains (cond b (y ∷ filter test ys) (filter test ys)) x) off c))
-]
-
 -- a number with a gap has no place after the empty places went
 pub none_kept : (ps : List Place) (x gap i : ℕ) → IsGapFor ps x gap
     → IsPlaceOf (without_empty ps) x i → ⊥
 none_kept ps x gap i h at =
     let p : Place = get_or (without_empty ps) i nowhere in
-    no_place ps x gap h p (contains_kept (λ (q : Place). q.is_there) ps p
-    (Contains-get_or (without_empty ps) i nowhere at.within)) (at.numbered nowhere)
+    no_place ps x gap h p ((contains_filter (λ (q : Place). q.is_there) ps p).0
+    (Contains-get_or (without_empty ps) i nowhere at.within)).0 (at.numbered nowhere)
 
 -- the place of x, with x or empty
 abbrev pub place_with : ℕ → Bool → Place

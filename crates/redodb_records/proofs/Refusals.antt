@@ -1,7 +1,7 @@
 -- The verdict on a command is that of its kind; if that refuses nothing, that of its names.
 use Rattle.std.proofs.Common.{◌≡◌, ℕ, Bool, true, false, not, Option, Some, None, refl, arith}
 use Rattle.std.specs.Option.{option_or}
-use Rattle.redodb_model.specs.Command.{Command, File, Gone, Lock, Unlock, Start, IfChange, IfCreate, Always, Stamp, Done, Failed, Ood, Targets, Sources, target_of}
+use Rattle.redodb_model.specs.Command.{Command, Unlock, Start, IfChange, IfCreate, Always, Stamp, Done, Failed, target_of}
 use Rattle.redodb_model.specs.Names.{Naming}
 use Rattle.redodb_model.specs.State.{Records, TargetState, target_state}
 use Rattle.redodb_model.specs.Reply.{Refusal, NotBuilding}
@@ -22,9 +22,6 @@ module _ (naming : Naming ℕ) (records : Records ℕ) (s : ℕ) (holds : Bool) 
   pub verdict_on_target : (command : Command ℕ) (t : ℕ) → target_of command ≡ Some t
       → option_or (refusal_by_target (target_state records t) s holds (kind_for command))
       (refusal_of_names naming records command) ≡ verdict_of naming records s holds command
-  verdict_on_target (File n stamp) t on = refl
-  verdict_on_target (Gone n) t on = refl
-  verdict_on_target (Lock u) t on = refl
   verdict_on_target (Unlock u) t on =
       let same : u ≡ t = cc in
       rw same (or_none _)
@@ -51,9 +48,7 @@ module _ (naming : Naming ℕ) (records : Records ℕ) (s : ℕ) (holds : Bool) 
   verdict_on_target (Failed u) t on =
       let same : u ≡ t = cc in
       rw same (or_none _)
-  verdict_on_target Ood t on = refl
-  verdict_on_target Targets t on = refl
-  verdict_on_target Sources t on = refl
+  verdict_on_target command t on = refl
 
   -- by any state, if it has no target
   pub verdict_without_target : (command : Command ℕ) (state : TargetState)

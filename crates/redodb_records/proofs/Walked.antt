@@ -1,5 +1,5 @@
 -- The rows of a target, by the places of its slots.
-use Rattle.std.proofs.Common.{◌≡◌, Bool, true, ℕ, ◌<◌, List, IsSome, IsTrue, length, get_or, refl, sym, ap, subst, ◌∙◌, map, arith}
+use Rattle.std.proofs.Common.{◌≡◌, Bool, true, ℕ, ◌<◌, List, IsSome, length, get_or, refl, sym, ap, subst, ◌∙◌, map, arith}
 use Rattle.std.proofs.lemmas.Bool.Decides.{nat_tests}
 use Rattle.std.proofs.lemmas.List.{length-map, get_or-map}
 use Rattle.std.proofs.lemmas.List.Elements.{Contains-get_or}
@@ -9,17 +9,17 @@ use Rattle.redodb_model.specs.Names as names
 use Rattle.redodb_records.specs.Rows.{Slot, TargetRows, slot_at, has_slot, target_at, rows_of, by_number}
 use Rattle.redodb_records.specs.Target.{Ascending}
 use Rattle.redodb_records.specs.Support.Target.{blank}
-use Rattle.redodb_records.specs.Support.Kept.{has_change, has_created}
+use Rattle.redodb_records.specs.Support.Kept.{has_change}
 use Rattle.redodb_records.proofs.Inverses.{found_target, IsRowTest, slotted_row}
 use Rattle.redodb_records.proofs.Slots.{slot_found, slot_there}
 use Rattle.redodb_records.proofs.Told.{named_slot}
 
 -- the slots that the code reads are the target's
-pub slots_read : (targets now : List TargetRows) (t : ℕ) (target : TargetRows) (slots : List Slot)
+pub slots_read : {targets now : List TargetRows} {target : TargetRows} {slots : List Slot} (t : ℕ)
     → targets ≡ now → t < length now → target ≡ get_or targets t target → slots ≡ target.slots
     → slots ≡ (target_at now t).slots
-slots_read targets now t target slots is t_in at same =
-    let own = found_target targets now t target is t_in at in
+slots_read t is t_in at same =
+    let own = found_target t is t_in at in
     same ∙ ap (λ (x : TargetRows). x.slots) own.1
     ∙ ap (λ (ts : List TargetRows). (target_at ts t).slots) is
 
@@ -57,7 +57,7 @@ module _ (targets : List TargetRows) (t : ℕ) (slots : List Slot)
     (ascending : Ascending slots)
   where
     -- a slot has the rows on its name
-    found_slot : (k : ℕ) (slot : Slot) → k < length slots → slot ≡ get_or slots k slot
+    pub found_slot : (k : ℕ) (slot : Slot) → k < length slots → slot ≡ get_or slots k slot
         → slot_at (target_at targets t).slots slot.name ≡ slot
     found_slot k slot in' is =
         ap (λ ss. slot_at ss slot.name) (sym same)
@@ -68,23 +68,11 @@ module _ (targets : List TargetRows) (t : ℕ) (slots : List Slot)
         → (rows_of targets).change t slot.name ≡ slot.change
     row_of_slot k slot in' is = ap (λ (s : Slot). s.change) (found_slot k slot in' is)
 
-    pub created_of_slot : (k : ℕ) (slot : Slot) → k < length slots → slot ≡ get_or slots k slot
-        → (rows_of targets).created t slot.name ≡ slot.created
-    created_of_slot k slot in' is = ap (λ (s : Slot). s.created) (found_slot k slot in' is)
-
     -- a name with a row has a slot
-    is_slotted : (test : Slot → Bool) → IsRowTest test → (n : ℕ)
+    pub is_slotted : (test : Slot → Bool) → IsRowTest test → (n : ℕ)
         → test (slot_at (target_at targets t).slots n) ≡ true → has_slot slots n ≡ true
     is_slotted test no_blank n row =
         slotted_row test no_blank slots n (subst (λ ss. test (slot_at ss n) ≡ true) (sym same) row)
-
-    pub slotted_change : (n : ℕ) → IsSome ((rows_of targets).change t n)
-        → has_slot slots n ≡ true
-    slotted_change n row = is_slotted has_change (λ k. refl) n row
-
-    pub slotted_created : (n : ℕ) → IsTrue ((rows_of targets).created t n)
-        → has_slot slots n ≡ true
-    slotted_created n row = is_slotted has_created (λ k. refl) n row
 
     -- and the row is in it
     slot_with : (test : Slot → Bool) → IsRowTest test → (n : ℕ)
@@ -100,7 +88,7 @@ module _ (targets : List TargetRows) (t : ℕ) (slots : List Slot)
         let stands = ap (slot_at slots) (sym named) ∙ found in
         (at.0, at.1, named, subst (λ (s : Slot). test s ≡ true) stands own)
 
-    name_with : (test : Slot → Bool) → IsRowTest test → (n : ℕ)
+    pub name_with : (test : Slot → Bool) → IsRowTest test → (n : ℕ)
         → test (slot_at (target_at targets t).slots n) ≡ true → Contains (slot_names slots) n
     name_with test no_blank n row =
         let at = slot_with test no_blank n row in
@@ -116,7 +104,3 @@ module _ (targets : List TargetRows) (t : ℕ) (slots : List Slot)
     pub name_of_row : (n : ℕ) → IsSome ((rows_of targets).change t n)
         → Contains (slot_names slots) n
     name_of_row n row = name_with has_change (λ k. refl) n row
-
-    pub name_of_created : (n : ℕ) → IsTrue ((rows_of targets).created t n)
-        → Contains (slot_names slots) n
-    name_of_created n row = name_with has_created (λ k. refl) n row

@@ -121,11 +121,11 @@ inverse_grown test targets n lists old new n_in at same larger h =
       ];
     }
 
-pub kept_needed : (targets : List TargetRows) (n : ℕ) (needed awaited : List NumberList)
-    (slotted : List ℕ) (old new : NumberList) → n < length targets → old ≡ get_or needed n old
+pub kept_needed : {targets : List TargetRows} {needed awaited : List NumberList} {slotted : List ℕ}
+    {old : NumberList} (n : ℕ) (new : NumberList) → n < length targets → old ≡ get_or needed n old
     → new.items ≡ old.items → old.room ≤ new.room
     → IsKept targets needed awaited slotted → IsKept targets (set needed n new) awaited slotted
-kept_needed targets n needed awaited slotted old new n_in at same larger h = record {
+kept_needed {targets} {needed} {awaited} {slotted} {old} n new n_in at same larger h = record {
   small = h.small;
   below = h.below;
   needs = inverse_grown has_change targets n needed old new n_in at same larger h.needs;
@@ -133,11 +133,11 @@ kept_needed targets n needed awaited slotted old new n_in at same larger h = rec
   counts = h.counts;
 }
 
-pub kept_awaited : (targets : List TargetRows) (n : ℕ) (needed awaited : List NumberList)
-    (slotted : List ℕ) (old new : NumberList) → n < length targets → old ≡ get_or awaited n old
+pub kept_awaited : {targets : List TargetRows} {needed awaited : List NumberList} {slotted : List ℕ}
+    {old : NumberList} (n : ℕ) (new : NumberList) → n < length targets → old ≡ get_or awaited n old
     → new.items ≡ old.items → old.room ≤ new.room
     → IsKept targets needed awaited slotted → IsKept targets needed (set awaited n new) slotted
-kept_awaited targets n needed awaited slotted old new n_in at same larger h = record {
+kept_awaited {targets} {needed} {awaited} {slotted} {old} n new n_in at same larger h = record {
   small = h.small;
   below = h.below;
   needs = h.needs;
@@ -195,49 +195,50 @@ keeps_slot targets t n new needed awaited slotted m below n_in w none more neede
     }
 
 -- the same in the terms of the code
-pub kept_change : (targets now : List TargetRows) (t n : ℕ) (old new : TargetRows) (mark : Mark)
-    (was : Bool) (needed needed' awaited : List NumberList) (slotted : List ℕ) → targets ≡ now
-    → t < length now → old ≡ get_or targets t old
+pub kept_change : {targets now : List TargetRows} {old : TargetRows} {was : Bool}
+    {needed needed' awaited : List NumberList} {slotted : List ℕ} (t n : ℕ) (new : TargetRows)
+    (mark : Mark) → targets ≡ now → t < length now → old ≡ get_or targets t old
     → WritesChange old new n mark → was ≡ has_change (slot_at old.slots n)
     → FollowsOn n t was true needed needed'
     → IsKept targets needed awaited slotted → IsKept (set targets t new) needed' awaited slotted
-kept_change targets now t n old new mark was needed needed' awaited slotted
-    is t_in at w was_is f h =
-    let found = found_target targets now t old is t_in at in
+kept_change {targets} {now} {old} {was} {needed} {needed'} {awaited} {slotted} t n new mark is t_in
+    at w was_is f h =
+    let found = found_target t is t_in at in
     keeps_change targets t n new mark was needed needed' awaited slotted found.0
     (subst (λ x. WritesChange x new n mark) found.1 w)
     (was_is ∙ ap (λ (x : TargetRows). has_change (slot_at x.slots n)) found.1) f h
 
-pub kept_created : (targets now : List TargetRows) (t n : ℕ) (old new : TargetRows) (was : Bool)
-    (needed awaited awaited' : List NumberList) (slotted : List ℕ) → targets ≡ now → t < length now
-    → old ≡ get_or targets t old
+pub kept_created : {targets now : List TargetRows} {old : TargetRows} {was : Bool}
+    {needed awaited awaited' : List NumberList} {slotted : List ℕ} (t n : ℕ) (new : TargetRows)
+    → targets ≡ now → t < length now → old ≡ get_or targets t old
     → WritesCreated old new n → was ≡ has_created (slot_at old.slots n)
     → FollowsOn n t was true awaited awaited'
     → IsKept targets needed awaited slotted → IsKept (set targets t new) needed awaited' slotted
-kept_created targets now t n old new was needed awaited awaited' slotted is t_in at w was_is f h =
-    let found = found_target targets now t old is t_in at in
+kept_created {targets} {now} {old} {was} {needed} {awaited} {awaited'} {slotted} t n new is t_in at
+    w was_is f h =
+    let found = found_target t is t_in at in
     keeps_created targets t n new was needed awaited awaited' slotted found.0
     (subst (λ x. WritesCreated x new n) found.1 w)
     (was_is ∙ ap (λ (x : TargetRows). has_created (slot_at x.slots n)) found.1) f h
 
-pub knows_row : (test : Slot → Bool) → IsRowTest test → (targets now : List TargetRows) (t n : ℕ)
-    (old : TargetRows) (was : Bool) (lists : List NumberList) → targets ≡ now → t < length now
-    → n < length now → old ≡ get_or targets t old
+pub knows_row : {targets now : List TargetRows} {old : TargetRows} {was : Bool}
+    {lists : List NumberList} (test : Slot → Bool) → IsRowTest test → (t n : ℕ) → targets ≡ now
+    → t < length now → n < length now → old ≡ get_or targets t old
     → room_of now t n ≡ true → was ≡ test (slot_at old.slots n) → IsInverse test targets lists
     → KnowsRow t n was lists
-knows_row test blank targets now t n old was lists is t_in n_in at room was_is h =
-    let found = found_target targets now t old is t_in at in
+knows_row {targets} {now} {old} {was} {lists} test blank t n is t_in n_in at room was_is h =
+    let found = found_target t is t_in at in
     row_known test blank targets t n was lists found.0
     (subst (λ (ts : List TargetRows). n < length ts) (sym is) n_in) (ap (λ ts. room_of ts t n) is
     ∙ room) (was_is ∙ ap (λ (x : TargetRows). test (slot_at x.slots n)) found.1) h
 
-pub kept_always : (targets now : List TargetRows) (t : ℕ) (old new : TargetRows)
-    (needed awaited : List NumberList) (slotted : List ℕ) → targets ≡ now → t < length now
-    → old ≡ get_or targets t old
+pub kept_always : {targets now : List TargetRows} {old : TargetRows}
+    {needed awaited : List NumberList} {slotted : List ℕ} (t : ℕ) (new : TargetRows)
+    → targets ≡ now → t < length now → old ≡ get_or targets t old
     → new.slots ≡ old.slots → IsKept targets needed awaited slotted
     → IsKept (set targets t new) needed awaited slotted
-kept_always targets now t old new needed awaited slotted is t_in at same h =
-    let found = found_target targets now t old is t_in at in
+kept_always {targets} {now} {old} {needed} {awaited} {slotted} t new is t_in at same h =
+    let found = found_target t is t_in at in
     let slots : new.slots ≡ (target_at targets t).slots =
     same ∙ ap (λ (x : TargetRows). x.slots) found.1 in
     kept_stays targets t new needed awaited slotted found.0 (λ k. ap (λ ss. slot_at ss k) slots)
@@ -249,17 +250,18 @@ room_there : (lists : List NumberList) (n m : ℕ) (new : NumberList) → n < le
 room_there lists n m new n_in room =
     subst (λ (x : NumberList). m ≤ x.room) (sym (get_or-set_same lists n new no_numbers n_in)) room
 
-pub kept_slot : (targets now : List TargetRows) (t n : ℕ) (old new : TargetRows) (needed
-    awaited : List NumberList) (slotted : List ℕ) (grown_needed grown_awaited : NumberList) (m : ℕ)
+pub kept_slot : {targets now : List TargetRows} {old : TargetRows} {slotted : List ℕ} {m : ℕ}
+    (t n : ℕ) (new : TargetRows) (needed awaited : List NumberList)
+    (grown_needed grown_awaited : NumberList)
     → targets ≡ now → t < length now → n < length now → old ≡ get_or targets t old
     → AddsSlot old new n → room_of now t n ≡ false → m ≡ get_or slotted n m
     → m + 1 ≤ grown_needed.room → m + 1 ≤ grown_awaited.room
     → IsKept targets (set needed n grown_needed) (set awaited n grown_awaited) slotted
     → IsKept (set targets t new) (set needed n grown_needed) (set awaited n grown_awaited)
     (set slotted n (m + 1))
-kept_slot targets now t n old new needed awaited slotted grown_needed grown_awaited
-    m is t_in n_in at w none counted needed_room awaited_room h =
-    let found = found_target targets now t old is t_in at in
+kept_slot {targets} {now} {old} {slotted} {m} t n new needed awaited grown_needed grown_awaited is
+    t_in n_in at w none counted needed_room awaited_room h =
+    let found = found_target t is t_in at in
     let name : n < length targets = subst (λ (ts : List TargetRows). n < length ts) (sym is) n_in in
     let needed_in : n < length needed =
     omega (arith, name, h.needs.sized, length-set needed n grown_needed) in

@@ -6,7 +6,8 @@ use Rattle.redodb_model.specs.Reply.{Refusal, NotLocked, Building, NotBuilding, 
 use Rattle.redodb_model.specs.Step.{refusal_or, refusal_of_existing, is_built_by, is_among}
 use Rattle.redodb_model.specs.Command as commands
 use Rattle.redodb_commands.specs.declared.kind.Kind.{Kind}
-use Rattle.redodb_commands.specs.declared.kind.Kind.TheVariants.{File, Gone, Lock, Unlock, Start, IfChange, IfCreate, Always, Stamp, Done, Failed, Ood, Targets, Sources}
+pub use Rattle.redodb_commands.specs.Support.Meaning.{kind_for}
+use Rattle.redodb_commands.specs.declared.kind.Kind.TheVariants.{Unlock, Start, IfChange, IfCreate, Always, Stamp, Done, Failed}
 
 -- the first of these that applies: the session does not hold the target's lock, the target is
 -- building
@@ -21,9 +22,6 @@ refusal_by_build s state = refusal_or (not (is_built_by s state)) NotBuilding No
 -- the first refusal that applies whatever the names after the target are; `holds`: whether the
 -- session holds the target's lock
 abbrev pub refusal_by_target : TargetState → ℕ → Bool → Kind → Option (Refusal ℕ)
-refusal_by_target state s holds File = None
-refusal_by_target state s holds Gone = None
-refusal_by_target state s holds Lock = None
 refusal_by_target state s holds Unlock = refusal_by_lock holds state
 refusal_by_target state s holds Start = refusal_by_lock holds state
 refusal_by_target state s holds IfChange = refusal_by_build s state
@@ -32,9 +30,7 @@ refusal_by_target state s holds Always = refusal_by_build s state
 refusal_by_target state s holds Stamp = refusal_by_build s state
 refusal_by_target state s holds Done = refusal_by_build s state
 refusal_by_target state s holds Failed = refusal_by_build s state
-refusal_by_target state s holds Ood = None
-refusal_by_target state s holds Targets = None
-refusal_by_target state s holds Sources = None
+refusal_by_target state s holds kind = None
 
 -- the first refusal for the names after the target: the target is among them; one of them has a
 -- file
@@ -44,19 +40,3 @@ refusal_of_names naming r (commands.IfChange t ns) = refusal_or (is_among naming
 refusal_of_names naming r (commands.IfCreate t ns) =
     refusal_or (is_among naming ns t) Itself (refusal_of_existing (find (has_file r) ns))
 refusal_of_names naming r command = None
-
-abbrev pub kind_for : {N : Type 0} → commands.Command N → Kind
-kind_for (commands.File n stamp) = File
-kind_for (commands.Gone n) = Gone
-kind_for (commands.Lock t) = Lock
-kind_for (commands.Unlock t) = Unlock
-kind_for (commands.Start t) = Start
-kind_for (commands.IfChange t ns) = IfChange
-kind_for (commands.IfCreate t ns) = IfCreate
-kind_for (commands.Always t) = Always
-kind_for (commands.Stamp t content) = Stamp
-kind_for (commands.Done t stamp) = Done
-kind_for (commands.Failed t) = Failed
-kind_for commands.Ood = Ood
-kind_for commands.Targets = Targets
-kind_for commands.Sources = Sources

@@ -21,7 +21,4 @@ kept_mark_for states.Absent = Absent
 
 pub kept_mark_for-kept_mark_of : (kept : KeptMark) → kept_mark_for (kept_mark_of kept) ≡ kept
 kept_mark_for-kept_mark_of (Digest digest) = refl
-kept_mark_for-kept_mark_of (Builds builds) = refl
-kept_mark_for-kept_mark_of Pending = refl
-kept_mark_for-kept_mark_of (File stamp) = refl
-kept_mark_for-kept_mark_of Absent = refl
+kept_mark_for-kept_mark_of mark = refl

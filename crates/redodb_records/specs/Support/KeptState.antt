@@ -20,6 +20,4 @@ kept_state_for states.Failed = Failed
 pub kept_state_for-kept_state_of : (kept : KeptState)
     → kept_state_for (kept_state_of kept) ≡ kept
 kept_state_for-kept_state_of Idle = refl
-kept_state_for-kept_state_of (Building session) = refl
-kept_state_for-kept_state_of Built = refl
-kept_state_for-kept_state_of Failed = refl
+kept_state_for-kept_state_of state = refl

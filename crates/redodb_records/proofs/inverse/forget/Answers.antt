@@ -5,83 +5,57 @@ use Rattle.redodb_records.proofs.inverse.forget.Goals as goal
 
 pub loop-slot-init : goal.loop-slot-init
 loop-slot-init c = record {
-  needs = taken_begins has_change (λ k. refl) c.args.targets.now.items c.args.t
-      c.args.needed.now.items c.requires.needs;
-  awaits = taken_begins has_created (λ k. refl) c.args.targets.now.items c.args.t
-      c.args.awaited.now.items c.requires.awaits;
+  needs = taken_begins has_change (λ k. refl) c.args.t c.requires.needs;
+  awaits = taken_begins has_created (λ k. refl) c.args.t c.requires.awaits;
 }
 
 pub take_out-requires : goal.take_out-requires
 take_out-requires c =
     let at =
-    at_slot has_change c.args.targets.now.items c.args.t c.loop-slot.slot-index c.index.result.now
-    c.slots-slot-items.result.now c.slot-item.result c.name-n.result c.has_change.result
-    c.requires.target c.index.ensures c.slots-slot-items.ensures.same
-    c.slots-slot-items.ensures.ascending c.loop-slot-test.true c.slot-item.is c.name-n.ensures
-    c.has_change.ensures in
-    let known =
-    slot_known has_change c.args.targets.now.items c.args.t c.loop-slot.slot-index c.name-n.result
-    c.has_change.result at c.args.needed.now.items c.loop-slot.needed.items
-    c.loop-slot.invariant.needs c.requires.names c.requires.needs in
+    at_slot has_change c.args.targets.now.items c.args.t c.loop-slot.slot-index c.requires.target
+    c.index.ensures c.slots-slot-items.ensures.same c.slots-slot-items.ensures.ascending
+    c.loop-slot-test.true c.slot-item.is c.name-n.ensures c.has_change.ensures in
+    let known = slot_known at c.loop-slot.invariant.needs c.requires.names c.requires.needs in
     record { name = known.0; was = known.1 }
 
 pub take_out-requires-in-loop-slot : goal.take_out-requires-in-loop-slot
 take_out-requires-in-loop-slot c =
     let at =
-    at_slot has_created c.args.targets.now.items c.args.t c.loop-slot.slot-index c.index.result.now
-    c.slots-slot-items.result.now c.slot-item.result c.name-n.result c.created.result
-    c.requires.target c.index.ensures c.slots-slot-items.ensures.same
-    c.slots-slot-items.ensures.ascending c.loop-slot-test.true c.slot-item.is c.name-n.ensures
-    c.created.ensures in
-    let known =
-    slot_known has_created c.args.targets.now.items c.args.t c.loop-slot.slot-index c.name-n.result
-    c.created.result at c.args.awaited.now.items c.loop-slot.awaited.items
-    c.loop-slot.invariant.awaits c.requires.names c.requires.awaits in
+    at_slot has_created c.args.targets.now.items c.args.t c.loop-slot.slot-index c.requires.target
+    c.index.ensures c.slots-slot-items.ensures.same c.slots-slot-items.ensures.ascending
+    c.loop-slot-test.true c.slot-item.is c.name-n.ensures c.created.ensures in
+    let known = slot_known at c.loop-slot.invariant.awaits c.requires.names c.requires.awaits in
     record { name = known.0; was = known.1 }
 
 pub loop-slot-preserved : goal.loop-slot-preserved
 loop-slot-preserved c =
     let changed =
-    at_slot has_change c.args.targets.now.items c.args.t c.loop-slot.slot-index c.index.result.now
-    c.slots-slot-items.result.now c.slot-item.result c.name-n.result c.has_change.result
-    c.requires.target c.index.ensures c.slots-slot-items.ensures.same
-    c.slots-slot-items.ensures.ascending c.loop-slot-test.true c.slot-item.is c.name-n.ensures
-    c.has_change.ensures in
+    at_slot has_change c.args.targets.now.items c.args.t c.loop-slot.slot-index c.requires.target
+    c.index.ensures c.slots-slot-items.ensures.same c.slots-slot-items.ensures.ascending
+    c.loop-slot-test.true c.slot-item.is c.name-n.ensures c.has_change.ensures in
     let created =
-    at_slot has_created c.args.targets.now.items c.args.t c.loop-slot.slot-index c.index.result.now
-    c.slots-slot-items.result.now c.slot-item.result c.name-n.result c.created.result
-    c.requires.target c.index.ensures c.slots-slot-items.ensures.same
-    c.slots-slot-items.ensures.ascending c.loop-slot-test.true c.slot-item.is c.name-n.ensures
-    c.created.ensures in
+    at_slot has_created c.args.targets.now.items c.args.t c.loop-slot.slot-index c.requires.target
+    c.index.ensures c.slots-slot-items.ensures.same c.slots-slot-items.ensures.ascending
+    c.loop-slot-test.true c.slot-item.is c.name-n.ensures c.created.ensures in
     record {
-      needs = slot_taken has_change c.args.targets.now.items c.args.t c.loop-slot.slot-index
-          c.name-n.result c.has_change.result changed c.args.needed.now.items
-          c.loop-slot.needed.items c.loop-slot.invariant.needs c.take_out.new.lists.items
-          c.take_out.ensures;
-      awaits = slot_taken has_created c.args.targets.now.items c.args.t c.loop-slot.slot-index
-          c.name-n.result c.created.result created c.args.awaited.now.items
-          c.loop-slot.awaited.items c.loop-slot.invariant.awaits
-          c.take_out-in-loop-slot.new.lists.items c.take_out-in-loop-slot.ensures;
+      needs = slot_taken changed c.loop-slot.invariant.needs c.take_out.ensures;
+      awaits = slot_taken created c.loop-slot.invariant.awaits c.take_out-in-loop-slot.ensures;
     }
 
 pub returns-clause-needs : goal.returns-clause-needs
 returns-clause-needs c =
     let targets = c.args.targets.now.items in
-    let all = all_slots c.args.targets.now.items c.args.t c.loop-slot.slot-index
-    c.index.result.now c.slots-slot-items.result.now c.requires.target c.index.ensures
+    let all = all_slots targets c.args.t c.loop-slot.slot-index c.requires.target c.index.ensures
     c.slots-slot-items.ensures.same c.loop-slot-test.false in
-    all_taken has_change (λ k. refl) targets c.args.t c.args.needed.now.items c.requires.needs
-    c.loop-slot.needed.items c.requires.target
+    all_taken has_change (λ k. refl) c.args.t c.requires.needs c.requires.target
     (subst (λ rest. IsTakenOut has_change targets c.args.t rest c.args.needed.now.items
     c.loop-slot.needed.items) all c.loop-slot.invariant.needs)
 
 pub returns-clause-awaits : goal.returns-clause-awaits
 returns-clause-awaits c =
     let targets = c.args.targets.now.items in
-    let all = all_slots c.args.targets.now.items c.args.t c.loop-slot.slot-index
-    c.index.result.now c.slots-slot-items.result.now c.requires.target c.index.ensures
+    let all = all_slots targets c.args.t c.loop-slot.slot-index c.requires.target c.index.ensures
     c.slots-slot-items.ensures.same c.loop-slot-test.false in
-    all_taken has_created (λ k. refl) targets c.args.t c.args.awaited.now.items c.requires.awaits
-    c.loop-slot.awaited.items c.requires.target
+    all_taken has_created (λ k. refl) c.args.t c.requires.awaits c.requires.target
     (subst (λ rest. IsTakenOut has_created targets c.args.t rest c.args.awaited.now.items
     c.loop-slot.awaited.items) all c.loop-slot.invariant.awaits)

@@ -4,6 +4,5 @@ use Rattle.redodb_records.proofs.rows.DepRows.is_needed.Goals as goal
 
 pub returns : goal.returns
 returns c =
-    inverse_some has_change c.self.inside.targets.items c.args.self.now c.args.n
-    c.self.inside.needed.items c.index.result.now c.has_any.result c.self.view_is c.requires
-    c.index.ensures c.has_any.ensures c.self.invariant.needs
+    inverse_some has_change c.args.n c.has_any.result c.self.view_is c.requires c.index.ensures
+    c.has_any.ensures c.self.invariant.needs

@@ -5,7 +5,5 @@ use Rattle.redodb_records.proofs.rows.DepRows.put_always.Goals as goal
 
 pub invariant_of-self : goal.invariant_of-self
 invariant_of-self c =
-    kept_always c.self.inside.targets.items c.args.self.now c.args.t c.index_mut.result.now
-    c.put_always.new.self c.self.inside.needed.items c.self.inside.awaited.items
-    c.self.inside.slotted.items c.self.view_is c.requires c.index_mut.ensures.value
+    kept_always c.args.t c.put_always.new.self c.self.view_is c.requires c.index_mut.ensures.value
     (ap (λ (x : TargetRows). x.slots) c.put_always.ensures) c.self.invariant

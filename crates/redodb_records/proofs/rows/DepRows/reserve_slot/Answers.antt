@@ -1,4 +1,4 @@
-use Rattle.std.proofs.Common.{◌≡◌, ◌∙◌, ◌<◌, sym, ap, arith, length, set}
+use Rattle.std.proofs.Common.{◌≡◌, ◌∙◌, ◌<◌, sym, ap, arith, length}
 use Rattle.std.proofs.lemmas.Grind.{common_steps}
 use Rattle.std.proofs.lemmas.List.{get_or_default}
 use Rattle.redodb_records.specs.Rows.{TargetRows}
@@ -24,72 +24,49 @@ overflow_add-slots c =
 
 pub invariant_of-self : goal.invariant_of-self
 invariant_of-self c =
-    let targets = c.self.inside.targets.items in
-    let needed = c.self.inside.needed.items in
-    let awaited = c.self.inside.awaited.items in
-    let slotted = c.self.inside.slotted.items in
-    let name : c.args.n < length targets =
+    let name : c.args.n < length c.self.inside.targets.items =
     omega (arith, c.requires.name, ap length c.self.view_is) in
-    kept_needed targets c.args.n needed awaited slotted c.index_mut.result.now c.reserve.new.self
-    name c.index_mut.ensures.value c.reserve.ensures.items c.reserve.ensures.kept c.self.invariant
+    kept_needed c.args.n c.reserve.new.self name c.index_mut.ensures.value c.reserve.ensures.items
+    c.reserve.ensures.kept c.self.invariant
 
 pub invariant_of-self-in_err-reserve-2 : goal.invariant_of-self-in_err-reserve-2
 invariant_of-self-in_err-reserve-2 c =
-    let targets = c.self.inside.targets.items in
-    let needed = c.self.inside.needed.items in
-    let awaited = c.self.inside.awaited.items in
-    let slotted = c.self.inside.slotted.items in
-    let name : c.args.n < length targets =
+    let name : c.args.n < length c.self.inside.targets.items =
     omega (arith, c.requires.name, ap length c.self.view_is) in
-    let h =
-    kept_needed targets c.args.n needed awaited slotted c.index_mut.result.now c.reserve.new.self
-    name c.index_mut.ensures.value c.reserve.ensures.items c.reserve.ensures.kept
-    c.self.invariant in
-    kept_awaited targets c.args.n (set needed c.args.n c.reserve.new.self) awaited slotted
-    c.index_mut-2.result.now c.reserve-2.new.self name c.index_mut-2.ensures.value
-    c.reserve-2.ensures.items c.reserve-2.ensures.kept h
+    let needed = c.reserve.ensures in
+    let h = kept_needed c.args.n c.reserve.new.self name c.index_mut.ensures.value needed.items
+    needed.kept c.self.invariant in
+    let awaited = c.reserve-2.ensures in
+    kept_awaited c.args.n c.reserve-2.new.self name c.index_mut-2.ensures.value awaited.items
+    awaited.kept h
 
 pub invariant_of-self-in_err-add_slot : goal.invariant_of-self-in_err-add_slot
 invariant_of-self-in_err-add_slot c =
     let name : c.args.n < length c.self.inside.targets.items =
     omega (arith, c.requires.name, ap length c.self.view_is) in
-    let h1 =
-    kept_needed c.self.inside.targets.items c.args.n c.self.inside.needed.items
-    c.self.inside.awaited.items c.self.inside.slotted.items
-    c.index_mut.result.now c.reserve.new.self
-    name c.index_mut.ensures.value c.reserve.ensures.items c.reserve.ensures.kept
-    c.self.invariant in
-    let h2 =
-    kept_awaited c.self.inside.targets.items c.args.n
-    (set c.self.inside.needed.items c.args.n c.reserve.new.self) c.self.inside.awaited.items
-    c.self.inside.slotted.items c.index_mut-2.result.now c.reserve-2.new.self name
-    c.index_mut-2.ensures.value c.reserve-2.ensures.items c.reserve-2.ensures.kept h1 in
-    kept_always c.self.inside.targets.items c.args.self.now c.args.t c.index_mut-3.result.now
-    c.add_slot.new.self (set c.self.inside.needed.items c.args.n c.reserve.new.self)
-    (set c.self.inside.awaited.items c.args.n c.reserve-2.new.self) c.self.inside.slotted.items
-    c.self.view_is c.requires.target c.index_mut-3.ensures.value
-    (ap (λ (x : TargetRows). x.slots) c.in_err-add_slot.ensures.err) h2
+    let needed = c.reserve.ensures in
+    let h = kept_needed c.args.n c.reserve.new.self name c.index_mut.ensures.value needed.items
+    needed.kept c.self.invariant in
+    let awaited = c.reserve-2.ensures in
+    let h2 = kept_awaited c.args.n c.reserve-2.new.self name c.index_mut-2.ensures.value awaited.items
+    awaited.kept h in
+    kept_always c.args.t c.add_slot.new.self c.self.view_is c.requires.target
+    c.index_mut-3.ensures.value (ap (λ (x : TargetRows). x.slots) c.in_err-add_slot.ensures.err) h2
 
 pub invariant_of-self-2 : goal.invariant_of-self-2
 invariant_of-self-2 c =
     let e = c.add_slot.ensures in
     let name : c.args.n < length c.self.inside.targets.items =
     omega (arith, c.requires.name, ap length c.self.view_is) in
-    let h1 =
-    kept_needed c.self.inside.targets.items c.args.n c.self.inside.needed.items
-    c.self.inside.awaited.items c.self.inside.slotted.items
-    c.index_mut.result.now c.reserve.new.self
-    name c.index_mut.ensures.value c.reserve.ensures.items c.reserve.ensures.kept
-    c.self.invariant in
-    let h2 =
-    kept_awaited c.self.inside.targets.items c.args.n
-    (set c.self.inside.needed.items c.args.n c.reserve.new.self) c.self.inside.awaited.items
-    c.self.inside.slotted.items c.index_mut-2.result.now c.reserve-2.new.self name
-    c.index_mut-2.ensures.value c.reserve-2.ensures.items c.reserve-2.ensures.kept h1 in
-    kept_slot c.self.inside.targets.items c.args.self.now c.args.t c.args.n c.index_mut-3.result.now
-    c.add_slot.new.self c.self.inside.needed.items c.self.inside.awaited.items
-    c.self.inside.slotted.items c.reserve.new.self c.reserve-2.new.self c.index.result.now
-    c.self.view_is c.requires.target c.requires.name c.index_mut-3.ensures.value
+    let needed = c.reserve.ensures in
+    let h = kept_needed c.args.n c.reserve.new.self name c.index_mut.ensures.value needed.items
+    needed.kept c.self.invariant in
+    let awaited = c.reserve-2.ensures in
+    let h2 = kept_awaited c.args.n c.reserve-2.new.self name c.index_mut-2.ensures.value awaited.items
+    awaited.kept h in
+    kept_slot c.args.t c.args.n c.add_slot.new.self c.self.inside.needed.items
+    c.self.inside.awaited.items c.reserve.new.self c.reserve-2.new.self c.self.view_is
+    c.requires.target c.requires.name c.index_mut-3.ensures.value
     (record { rows = e.rows; room = c.in_ok-add_slot.ensures.made; always = e.always })
     (sym c.has_room.ensures ∙ c.if-has_room.false) c.index.ensures c.in_ok-reserve.ensures.ok
     c.in_ok-reserve-2.ensures.ok h2
@@ -97,8 +74,7 @@ invariant_of-self-2 c =
 pub returns-clause-rows : goal.returns-clause-rows
 returns-clause-rows c =
     let e = c.add_slot.ensures in
-    slot_added_rows c.self.inside.targets.items c.args.self.now c.args.t c.args.n
-    c.index_mut-3.result.now c.add_slot.new.self c.self.view_is c.requires.target
+    slot_added_rows c.args.t c.args.n c.add_slot.new.self c.self.view_is c.requires.target
     c.index_mut-3.ensures.value
     (record { rows = e.rows; room = c.in_ok-add_slot.ensures.made; always = e.always })
 

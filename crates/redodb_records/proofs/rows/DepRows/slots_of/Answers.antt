@@ -4,12 +4,9 @@ use Rattle.redodb_records.proofs.rows.DepRows.slots_of.Goals as goal
 
 pub returns-clause-same : goal.returns-clause-same
 returns-clause-same c =
-    slots_read c.self.inside.targets.items c.args.self.now c.args.t c.index.result.now
-    c.slots.result.now c.self.view_is c.requires c.index.ensures c.slots.ensures.same
+    slots_read c.args.t c.self.view_is c.requires c.index.ensures c.slots.ensures.same
 
 pub returns-clause-below : goal.returns-clause-below
 returns-clause-below c =
-    slots_below c.self.inside.targets.items c.args.self.now c.args.t c.index.result.now
-    c.slots.result.now c.self.inside.needed.items c.self.inside.awaited.items
-    c.self.inside.slotted.items c.self.view_is c.requires c.index.ensures c.slots.ensures.same
+    slots_below c.args.t c.self.view_is c.requires c.index.ensures c.slots.ensures.same
     c.self.invariant
