@@ -9,7 +9,7 @@ use Rattle.redodb_model.specs.Names.{Text, text_at}
 use Rattle.redodb_model.specs.Command as commands
 use Rattle.redodb_model.specs.Renaming.{AllBelow, IsBelow}
 use Rattle.redodb_commands.specs.declared.command.Command.{Command}
-use Rattle.redodb_commands.specs.declared.command.Command.TheVariants.{File, Gone, Lock, Unlock, Start, IfChange, IfCreate, Always, Stamp, Done, Failed, Ood, Targets, Sources}
+use Rattle.redodb_commands.specs.declared.command.Command.TheVariants.{File, Gone, Lock, Unlock, Start, IfChange, IfCreate, Always, Stamp, Done, Failed}
 use Rattle.redodb_text.specs.declared.fault.LineFault.{LineFault}
 use Rattle.redodb_text.specs.declared.fault.LineFault.TheVariants.{TooManyNames}
 use Rattle.redodb_commands.specs.Meaning.{command_of}
@@ -134,6 +134,4 @@ command_at-Extends old new (Done n stamp) x below =
     λ i. commands.Done (e i) (option_map box_value stamp)
 command_at-Extends old new (Failed n) x below =
     ap commands.Failed (text_at-Extends old new n x below.0)
-command_at-Extends old new Ood x below = refl
-command_at-Extends old new Targets x below = refl
-command_at-Extends old new Sources x below = refl
+command_at-Extends old new command x below = refl

@@ -19,7 +19,7 @@ use Rattle.redodb_text.specs.declared.fault.LineFault.TheVariants.{LineTooLong, 
 use Rattle.redodb_commands.specs.Stamp.{is_stamp}
 use Rattle.redodb_text.specs.Grammar.{with_names, is_skipped}
 use Rattle.redodb_text.specs.Questions.{Question, first_yes, Wanted, a_name, some_content, wanted, are_digits, is_it, word_questions, names_among, is_full, kind_named, form_questions, word_list_questions, words_of, has_bad_byte, is_too_long, text_questions, unguarded, line_fault, file_line_fault}
-use Rattle.redodb_text.specs.Support.Reading.{◌>>=◌, Reading, some_content as content_or_fault, content_in, added, all_added, one_name_in, target_and_names_in, names_form_in, file_in, stamp_in, done_in, no_words_in, form_in, words_in, line_in, item_in, script_line_in}
+use Rattle.redodb_text.specs.Support.Reading.{◌>>=◌, Reading, some_content as content_or_fault, file_stamp_in, file_stamp_or_none_in, content_in, added, all_added, one_name_in, target_and_names_in, names_form_in, name_and_word_in, file_in, stamp_in, done_in, no_words_in, form_in, words_in, line_in, item_in, script_line_in}
 use Rattle.redodb_text.proofs.Guards.{asked_unguarded}
 use Rattle.redodb_text.proofs.ReplyNames.{none_added, one_all_added}
 use Rattle.redodb_text.proofs.ScriptParts.{with_names-longer}
@@ -100,49 +100,62 @@ asked_name {most} form names (n ∷ []) few = by (is_name n)
 asked_name {most} form names (n ∷ w ∷ ws) few =
     another _ names kinds.Gone (n ∷ w ∷ ws) (λ e. absurd (omega (arith, e)))
 
+-- a form of a name and of another word, if a question tells the fault of that
+asked_both : {X : Type 0} {most : ℕ} (reader : Text → Result X LineFault)
+    (form : Text → X → Command Text) (names : List Text) (n w : Text) (wrong : Bool)
+    (fault : LineFault) → length names ≤ most
+    → fault_in (reader w) ≡ first_yes ((wrong, fault) ∷ [])
+    → fault_in (name_and_word_in reader form most names (n ∷ w ∷ []))
+    ≡ first_yes ((not (is_name n), BadName) ∷ (wrong, fault)
+    ∷ (is_full most names (n ∷ []), TooManyNames) ∷ [])
+unfolding name_and_word_in
+asked_both {X} {most} reader form names n w wrong fault few asked = by (is_name n)
+  where
+    last : List Question
+    last = (is_full most names (n ∷ []), TooManyNames) ∷ []
+
+    by : (b : Bool)
+        → fault_in (cond b (Ok n) (Err BadName) >>= λ name. reader w
+        >>= λ x. added most names name >>= λ after. read (form name x, after))
+        ≡ first_yes ((not b, BadName) ∷ (wrong, fault) ∷ last)
+    by true =
+        fault_then (reader w) (λ x. added most names n >>= λ after. read (form n x, after))
+        (first_yes last) (λ x. added_last (added most names n) (form n x) ∙ asked_one names n few)
+        ∙ ap (λ (o : Option LineFault). or_else o (first_yes last)) asked
+        ∙ or_asked wrong fault last
+    by false = refl
+
 asked_file : {most : ℕ} (names args : List Text) → length names ≤ most
     → fault_in (file_in most names args)
     ≡ first_yes (form_questions most names (Some kinds.File) args)
-unfolding file_in
-asked_file {most} names [] few = refl
-asked_file {most} names (n ∷ []) few = refl
-asked_file {most} names (n ∷ s ∷ []) few = by (is_name n) (is_stamp s)
+unfolding name_and_word_in
+asked_file {most} names (n ∷ s ∷ []) few =
+    asked_both file_stamp_in File names n s (not (is_stamp s)) BadStamp few (by (is_stamp s))
   where
-    by : (b d : Bool)
-        → fault_in (cond b (Ok n) (Err BadName) >>= λ name. cond d (Ok s) (Err BadStamp)
-        >>= λ stamp. added most names name >>= λ after. read (File name stamp, after))
-        ≡ first_yes ((not b, BadName) ∷ (not d, BadStamp)
-        ∷ (is_full most names (n ∷ []), TooManyNames) ∷ [])
-    by true true = added_last (added most names n) (File n s) ∙ asked_one names n few
-    by true false = refl
-    by false d = refl
+    by : (d : Bool) → fault_in (cond d (Ok s) (Err BadStamp)) ≡ first_yes ((not d, BadStamp) ∷ [])
+    by true = refl
+    by false = refl
 asked_file {most} names (n ∷ s ∷ w ∷ ws) few =
     another _ names kinds.File (n ∷ s ∷ w ∷ ws) (λ e. absurd (omega (arith, e)))
+asked_file {most} names args few = refl
 
 asked_done : {most : ℕ} (names args : List Text) → length names ≤ most
     → fault_in (done_in most names args)
     ≡ first_yes (form_questions most names (Some kinds.Done) args)
-unfolding done_in
-asked_done {most} names [] few = refl
-asked_done {most} names (n ∷ []) few = refl
-asked_done {most} names (n ∷ s ∷ []) few = by (is_name n) (bytes_eq s (codes "-")) (is_stamp s)
+unfolding name_and_word_in
+asked_done {most} names (n ∷ s ∷ []) few =
+    asked_both file_stamp_or_none_in Done names n s (not (bytes_eq s (codes "-") || is_stamp s))
+    BadStamp few (by (bytes_eq s (codes "-")) (is_stamp s))
   where
-    last : (w : Option Text) → fault_in (added most names n >>= λ after. read (Done n w, after))
-        ≡ first_yes ((is_full most names (n ∷ []), TooManyNames) ∷ [])
-    last w = added_last (added most names n) (Done n w) ∙ asked_one names n few
-
-    by : (b dash d : Bool)
-        → fault_in (cond b (Ok n) (Err BadName)
-        >>= λ name. cond dash (Ok None) (cond d (Ok s) (Err BadStamp) >>= λ x. Ok (Some x))
-        >>= λ stamp. added most names name >>= λ after. read (Done name stamp, after))
-        ≡ first_yes ((not b, BadName) ∷ (not (dash || d), BadStamp)
-        ∷ (is_full most names (n ∷ []), TooManyNames) ∷ [])
-    by true true d = last None
-    by true false true = last (Some s)
-    by true false false = refl
-    by false dash d = refl
+    by : (dash d : Bool)
+        → fault_in (cond dash (Ok None) (cond d (Ok s) (Err BadStamp) >>= λ x. Ok (Some x)))
+        ≡ first_yes ((not (dash || d), BadStamp) ∷ [])
+    by true d = refl
+    by false true = refl
+    by false false = refl
 asked_done {most} names (n ∷ s ∷ w ∷ ws) few =
     another _ names kinds.Done (n ∷ s ∷ w ∷ ws) (λ e. absurd (omega (arith, e)))
+asked_done {most} names args few = refl
 
 -- no digits
 none_are_digits : (c : Text) → length c ≡ 0 → are_digits c ≡ false
@@ -190,32 +203,12 @@ asked_content c = by (bytes_eq c (codes "-")) (decode_of c) refl
 asked_stamp : {most : ℕ} (names args : List Text) → length names ≤ most
     → fault_in (stamp_in most names args)
     ≡ first_yes (form_questions most names (Some kinds.Stamp) args)
-unfolding stamp_in
-asked_stamp {most} names [] few = refl
-asked_stamp {most} names (n ∷ []) few = refl
-asked_stamp {most} names (n ∷ c ∷ []) few = by (is_name n)
-  where
-    last : List Question
-    last = (is_full most names (n ∷ []), TooManyNames) ∷ []
-
-    wrong : Bool
-    wrong = not (is_it some_content c)
-
-    by : (b : Bool)
-        → fault_in (cond b (Ok n) (Err BadName) >>= λ name. content_in c
-        >>= λ content. added most names name >>= λ after. read (Stamp name content, after))
-        ≡ first_yes ((not b, BadName) ∷ (wrong, BadHex) ∷ last)
-    by true =
-        fault_then (content_in c)
-        (λ content. added most names n >>= λ after. read (Stamp n content, after))
-        (first_yes last)
-        (λ content. added_last (added most names n) (Stamp n content)
-        ∙ asked_one names n few)
-        ∙ ap (λ (o : Option LineFault). or_else o (first_yes last)) (asked_content c)
-        ∙ or_asked wrong BadHex last
-    by false = refl
+unfolding name_and_word_in
+asked_stamp {most} names (n ∷ c ∷ []) few =
+    asked_both content_in Stamp names n c (not (is_it some_content c)) BadHex few (asked_content c)
 asked_stamp {most} names (n ∷ c ∷ w ∷ ws) few =
     another _ names kinds.Stamp (n ∷ c ∷ w ∷ ws) (λ e. absurd (omega (arith, e)))
+asked_stamp {most} names args few = refl
 
 abbrev all_names_wanted : List Text → List Wanted
 all_names_wanted words = map (λ word. a_name) words
@@ -244,8 +237,6 @@ asked_list : {most : ℕ} (form : Text → List Text → Command Text) (names ar
     → fault_in (names_form_in most form names args)
     ≡ first_yes (form_questions most names (Some kinds.IfChange) args)
 unfolding names_form_in target_and_names_in
-asked_list {most} form names [] few = refl
-asked_list {most} form names (t ∷ []) few = refl
 asked_list {most} form names (t ∷ n ∷ ns) few =
     let all = t ∷ n ∷ ns in
     let count : eqb (length all) (length (all_names_wanted all)) ≡ true =
@@ -271,6 +262,7 @@ asked_list {most} form names (t ∷ n ∷ ns) few =
     by false true =
         added_last (all_added most names (t ∷ n ∷ ns)) (form t (n ∷ ns))
         ∙ asked_full _ names (t ∷ n ∷ ns)
+asked_list {most} form names args few = refl
 
 asked_alone : {most : ℕ} (form : Command Text) (names args : List Text) → length names ≤ most
     → fault_in (no_words_in form names args)

@@ -1,5 +1,5 @@
 -- Words of content, and the bytes that they stand for.
-use Rattle.std.proofs.Common.{◌≡◌, ℕ, zero, suc, ◌<◌, Bool, true, false, cond, ◌&&◌, List, [], ◌∷◌, Result, Ok, Err, refl, sym, ap, subst, ◌∙◌, arith, lit<, inl, inr}
+use Rattle.std.proofs.Common.{◌≡◌, ℕ, zero, suc, ◌<◌, Bool, true, false, cond, ◌&&◌, List, [], ◌∷◌, Result, Ok, refl, sym, ap, subst, ◌∙◌, arith, lit<, inl, inr}
 use Rattle.std.specs.Prelude.{codes, bytes_eq, ◌≢◌}
 use Rattle.std.specs.List.{AllByRecursion}
 use Rattle.std.proofs.lemmas.List.Elements.{recursion_from_All}
@@ -38,11 +38,10 @@ content_read_as content = Ok content
 
 some_read : (r : Result Text FromHexError) (content : Text) → some_content r ≡ Ok content
     → (content ≢ []) × (r ≡ Ok content)
-some_read (Ok []) content e = absurd cc
 some_read (Ok (b ∷ bs)) content e =
     let same = same_given (b ∷ bs) content e in
     (subst (λ (t : Text). t ≢ []) same (λ h. cc), λ i. Ok (same i))
-some_read (Err fault) content e = absurd cc
+some_read decoded content e = absurd cc
 
 -- reading a word gives the content that it stands for
 pub content_says : (word content : Text) → content_in word ≡ Ok content → IsContent word content

@@ -13,7 +13,7 @@ use Rattle.redodb_commands.specs.Stamp.{is_stamp}
 use Rattle.redodb_text.specs.Texts.{spaced, stamp_word, word_of}
 use Rattle.redodb_text.specs.Grammar.{HasForm, IsNameList, IsSpelled, with_names, AddsNames}
 use Rattle.redodb_text.specs.Questions.{kind_named}
-use Rattle.redodb_text.specs.Support.Reading.{◌>>=◌, name_in, file_stamp_in, file_stamp_or_none_in, content_in, added, one_name_in, target_and_names_in, all_added, names_form_in, file_in, stamp_in, done_in, no_words_in, form_in, words_in}
+use Rattle.redodb_text.specs.Support.Reading.{◌>>=◌, name_in, file_stamp_in, file_stamp_or_none_in, content_in, added, one_name_in, target_and_names_in, all_added, names_form_in, name_and_word_in, no_words_in, form_in, words_in}
 use Rattle.redodb_text.proofs.FirstWords.{word_is}
 use Rattle.redodb_text.proofs.Steps.{bind_ok, guard_ok, read, same_given}
 use Rattle.redodb_text.proofs.Added.{one_added}
@@ -46,7 +46,6 @@ one_name_says : {most : ℕ} (form : Text → Command Text) (word : Text)
     → (names args : List Text) (x : Command Text × List Text) → length names ≤ most
     → one_name_in most form names args ≡ Ok x → SaysRead most names word args x
 unfolding one_name_in
-one_name_says {most} form word has spelled own names [] x few e = absurd cc
 one_name_says {most} form word has spelled own names (n ∷ []) x few e =
     let a = bind_ok (name_in n)
     (λ name. added most names name >>= λ after. Ok (form name, after)) x e in
@@ -58,32 +57,41 @@ one_name_says {most} form word has spelled own names (n ∷ []) x few e =
           subst (λ (t : Text). IsSpelled (spaced word (t ∷ [])) (form a.0)) (sym g.1) (spelled a.0);
       adds = one_added names a.0 (form a.0) b.0 few (own a.0) b.1;
     }) b.2
-one_name_says {most} form word has spelled own names (n ∷ w ∷ ws) x few e = absurd cc
+one_name_says {most} form word has spelled own names args x few e = absurd cc
 
-file_says : {most : ℕ} (names args : List Text) (x : Command Text × List Text) → length names ≤ most
-    → file_in most names args ≡ Ok x → SaysRead most names (codes "file") args x
-unfolding file_in
-file_says {most} names [] x few e = absurd cc
-file_says {most} names (n ∷ []) x few e = absurd cc
-file_says {most} names (n ∷ s ∷ []) x few e =
+-- what is read as a form of a name and of another word
+name_and_word_says : {X : Type 0} {most : ℕ} (reader : Text → Result X LineFault)
+    (form : Text → X → Command Text) (word : Text)
+    → ((n w : Text) (x : X) → IsTrue (is_name n) → reader w ≡ Ok x
+    → HasForm (form n x) × IsSpelled (spaced word (n ∷ w ∷ [])) (form n x))
+    → ((n : Text) (x : X) → names_in (form n x) ≡ n ∷ [])
+    → (names args : List Text) (x : Command Text × List Text) → length names ≤ most
+    → name_and_word_in reader form most names args ≡ Ok x → SaysRead most names word args x
+unfolding name_and_word_in
+name_and_word_says {X} {most} reader form word says own names (n ∷ w ∷ []) x few e =
     let a =
-    bind_ok (name_in n) (λ name. file_stamp_in s >>= λ stamp. added most names name >>= λ after. Ok
-    (File name stamp, after)) x e in
+    bind_ok (name_in n) (λ name. reader w >>= λ y. added most names name >>= λ after.
+    Ok (form name y, after)) x e in
     let b =
-    bind_ok (file_stamp_in s)
-    (λ stamp. added most names a.0 >>= λ after. Ok (File a.0 stamp, after)) x a.2 in
-    let d = bind_ok (added most names a.0) (λ after. Ok (File a.0 b.0, after)) x b.2 in
+    bind_ok (reader w) (λ y. added most names a.0 >>= λ after. Ok (form a.0 y, after)) x a.2 in
+    let d = bind_ok (added most names a.0) (λ after. Ok (form a.0 b.0, after)) x b.2 in
     let g = guard_ok (is_name n) BadName n a.0 a.1 in
-    let k = guard_ok (is_stamp s) BadStamp s b.0 b.1 in
-    says_read names (codes "file") (n ∷ s ∷ []) (File a.0 b.0, d.0) x (record {
-      form = (
-        subst (λ (t : Text). is_name t ≡ true) g.1 g.0,
-        subst (λ (t : Text). is_stamp t ≡ true) k.1 k.0,
-      );
-      spelled = λ i. spaced (codes "file") (g.1 i ∷ k.1 i ∷ []);
-      adds = one_added names a.0 (File a.0 b.0) d.0 few refl d.1;
+    let said = says a.0 w b.0 (subst (λ (t : Text). is_name t ≡ true) g.1 g.0) b.1 in
+    says_read names word (n ∷ w ∷ []) (form a.0 b.0, d.0) x (record {
+      form = said.0;
+      spelled = subst (λ (t : Text). IsSpelled (spaced word (t ∷ w ∷ [])) (form a.0 b.0)) (sym g.1)
+          said.1;
+      adds = one_added names a.0 (form a.0 b.0) d.0 few (own a.0 b.0) d.1;
     }) d.2
-file_says {most} names (n ∷ s ∷ w ∷ ws) x few e = absurd cc
+name_and_word_says reader form word says own names args x few e = absurd cc
+
+file_says : (n w stamp : Text) → IsTrue (is_name n) → file_stamp_in w ≡ Ok stamp
+    → HasForm (File n stamp) × IsSpelled (spaced (codes "file") (n ∷ w ∷ [])) (File n stamp)
+file_says n w stamp good given =
+    let k = guard_ok (is_stamp w) BadStamp w stamp given in (
+      (good, subst (λ (t : Text). is_stamp t ≡ true) k.1 k.0),
+      λ i. spaced (codes "file") (n ∷ k.1 i ∷ []),
+    )
 
 -- the word is that of the stamp, or stands for none
 record IsFileStampWord (word : Text) (stamp : Option Text) : Type 0 where
@@ -111,51 +119,18 @@ file_stamp_says word stamp e = by (bytes_eq word (codes "-")) refl e
         subst (IsFileStampWord word) some
         (record { is = k.1; good = subst (λ (t : Text). is_stamp t ≡ true) k.1 k.0 })
 
-stamp_says : {most : ℕ} (names args : List Text) (x : Command Text × List Text)
-    → length names ≤ most
-    → stamp_in most names args ≡ Ok x → SaysRead most names (codes "stamp") args x
-unfolding stamp_in
-stamp_says {most} names [] x few e = absurd cc
-stamp_says {most} names (n ∷ []) x few e = absurd cc
-stamp_says {most} names (n ∷ w ∷ []) x few e =
-    let a =
-    bind_ok (name_in n) (λ name. content_in w >>= λ content. added most names name >>= λ after. Ok
-    (Stamp name content, after)) x e in
-    let b =
-    bind_ok (content_in w)
-    (λ content. added most names a.0 >>= λ after. Ok (Stamp a.0 content, after)) x a.2 in
-    let d = bind_ok (added most names a.0) (λ after. Ok (Stamp a.0 b.0, after)) x b.2 in
-    let g = guard_ok (is_name n) BadName n a.0 a.1 in
-    let k = content_says w b.0 b.1 in
-    says_read names (codes "stamp") (n ∷ w ∷ []) (Stamp a.0 b.0, d.0) x (record {
-      form = (subst (λ (t : Text). is_name t ≡ true) g.1 g.0, k.bytes);
-      spelled = (w, λ i. spaced (codes "stamp") (g.1 i ∷ w ∷ []), k.word_is);
-      adds = one_added names a.0 (Stamp a.0 b.0) d.0 few refl d.1;
-    }) d.2
-stamp_says {most} names (n ∷ w ∷ v ∷ ws) x few e = absurd cc
+stamp_says : (n w content : Text) → IsTrue (is_name n) → content_in w ≡ Ok content
+    → HasForm (Stamp n content)
+    × IsSpelled (spaced (codes "stamp") (n ∷ w ∷ [])) (Stamp n content)
+stamp_says n w content good given =
+    let k = content_says w content given in ((good, k.bytes), (w, refl, k.word_is))
 
-done_says : {most : ℕ} (names args : List Text) (x : Command Text × List Text) → length names ≤ most
-    → done_in most names args ≡ Ok x → SaysRead most names (codes "done") args x
-unfolding done_in
-done_says {most} names [] x few e = absurd cc
-done_says {most} names (n ∷ []) x few e = absurd cc
-done_says {most} names (n ∷ s ∷ []) x few e =
-    let a =
-    bind_ok (name_in n)
-    (λ name. file_stamp_or_none_in s >>= λ stamp. added most names name >>= λ after.
-    Ok (Done name stamp, after)) x e in
-    let b =
-    bind_ok (file_stamp_or_none_in s)
-    (λ stamp. added most names a.0 >>= λ after. Ok (Done a.0 stamp, after)) x a.2 in
-    let d = bind_ok (added most names a.0) (λ after. Ok (Done a.0 b.0, after)) x b.2 in
-    let g = guard_ok (is_name n) BadName n a.0 a.1 in
-    let k = file_stamp_says s b.0 b.1 in
-    says_read names (codes "done") (n ∷ s ∷ []) (Done a.0 b.0, d.0) x (record {
-      form = (subst (λ (t : Text). is_name t ≡ true) g.1 g.0, k.good);
-      spelled = λ i. spaced (codes "done") (g.1 i ∷ k.is i ∷ []);
-      adds = one_added names a.0 (Done a.0 b.0) d.0 few refl d.1;
-    }) d.2
-done_says {most} names (n ∷ s ∷ w ∷ ws) x few e = absurd cc
+done_says : (n w : Text) (stamp : Option Text) → IsTrue (is_name n)
+    → file_stamp_or_none_in w ≡ Ok stamp
+    → HasForm (Done n stamp) × IsSpelled (spaced (codes "done") (n ∷ w ∷ [])) (Done n stamp)
+done_says n w stamp good given =
+    let k = file_stamp_says w stamp given in
+    ((good, k.good), λ i. spaced (codes "done") (n ∷ k.is i ∷ []))
 
 -- what is read as a form of a target and of names
 names_form_says : {most : ℕ} (form : Text → List Text → Command Text) (word : Text)
@@ -200,7 +175,8 @@ form_says : {most : ℕ} (kind : Kind) (names args : List Text) (x : Command Tex
     → length names ≤ most → form_in most (Some kind) names args ≡ Ok x
     → SaysRead most names (word_of kind) args x
 unfolding form_in
-form_says {most} kinds.File = file_says
+form_says {most} kinds.File =
+    name_and_word_says file_stamp_in File (codes "file") file_says (λ n stamp. refl)
 form_says {most} kinds.Gone = one_name_says Gone (codes "gone") (λ n good. good) (λ n. refl)
     (λ n. refl)
 form_says {most} kinds.Lock = one_name_says Lock (codes "lock") (λ n good. good) (λ n. refl)
@@ -217,8 +193,10 @@ form_says {most} kinds.IfCreate =
     (λ t ns. refl)
 form_says {most} kinds.Always =
     one_name_says Always (codes "always") (λ n good. good) (λ n. refl) (λ n. refl)
-form_says {most} kinds.Stamp = stamp_says
-form_says {most} kinds.Done = done_says
+form_says {most} kinds.Stamp =
+    name_and_word_says content_in Stamp (codes "stamp") stamp_says (λ n content. refl)
+form_says {most} kinds.Done =
+    name_and_word_says file_stamp_or_none_in Done (codes "done") done_says (λ n stamp. refl)
 form_says {most} kinds.Failed =
     one_name_says Failed (codes "failed") (λ n good. good) (λ n. refl) (λ n. refl)
 form_says {most} kinds.Ood = no_words_says Ood (codes "ood") tt refl refl

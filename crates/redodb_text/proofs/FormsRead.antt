@@ -1,14 +1,15 @@
 -- The words of a command are read as the command.
-use Rattle.std.proofs.Common.{◌≡◌, ◌≤◌, List, [], ◌∷◌, length, Option, Some, None, Ok, refl, sym, ap, lit≤, arith, ℕ}
+use Rattle.std.proofs.Common.{◌≡◌, ◌≤◌, List, [], ◌∷◌, length, Option, Some, None, Result, Ok, refl, sym, ap, lit≤, arith, ℕ}
 use Rattle.std.specs.Prelude.{codes, IfSome, IsTrue}
 use Rattle.std.specs.List.{AllByRecursion}
 use Rattle.redodb_names.specs.Names.{is_name}
 use Rattle.redodb_model.specs.Names.{Text}
 use Rattle.redodb_model.specs.Command.{Command, File, Gone, Lock, Unlock, Start, IfChange, IfCreate, Always, Stamp, Done, Failed, Ood, Targets, Sources, names_in}
 use Rattle.redodb_commands.specs.Stamp.{is_stamp}
+use Rattle.redodb_text.specs.declared.fault.LineFault.{LineFault}
 use Rattle.redodb_text.specs.Texts.{spaced, stamp_word}
-use Rattle.redodb_text.specs.Grammar.{HasForm, IsNameList, IsSpelled, IsContentWord, AddsNames}
-use Rattle.redodb_text.specs.Support.Reading.{file_stamp_or_none_in, one_name_in, names_form_in, file_in, stamp_in, done_in, no_words_in, form_in, words_in}
+use Rattle.redodb_text.specs.Grammar.{HasForm, IsNameList, IsSpelled, AddsNames}
+use Rattle.redodb_text.specs.Support.Reading.{file_stamp_in, file_stamp_or_none_in, content_in, one_name_in, names_form_in, name_and_word_in, no_words_in, form_in, words_in}
 use Rattle.redodb_text.proofs.Added.{one_fits}
 use Rattle.redodb_text.proofs.Contents.{content_read, content_is_visible}
 use Rattle.redodb_text.proofs.NameLists.{target_and_names_read, names_are_visible, all_fit}
@@ -42,13 +43,18 @@ names_form_read {most} form names t ns after own good list adds =
     let fit = all_fit names (t ∷ ns) (form t ns) after own adds in
     rw (words, fit) refl
 
-file_read : {most : ℕ} (names : List Text) (n stamp : Text) (after : List Text) → IsTrue (is_name n)
-    → IsTrue (is_stamp stamp) → AddsNames most names (File n stamp ∷ []) after
-    → file_in most names (n ∷ stamp ∷ []) ≡ Ok (File n stamp, after)
-unfolding file_in
-file_read {most} names n stamp after good known adds =
-    let fits = one_fits names n (File n stamp) after refl adds in
-    rw (good, known, fits) refl
+name_and_word_read : {X : Type 0} {most : ℕ} (reader : Text → Result X LineFault)
+    (form : Text → X → Command Text) (names : List Text) (n word : Text) (x : X) (after : List Text)
+    → names_in (form n x) ≡ n ∷ [] → IsTrue (is_name n) → reader word ≡ Ok x
+    → AddsNames most names (form n x ∷ []) after
+    → name_and_word_in reader form most names (n ∷ word ∷ []) ≡ Ok (form n x, after)
+unfolding name_and_word_in
+name_and_word_read reader form names n word x after own good given adds =
+    let fits = one_fits names n (form n x) after own adds in
+    rw (good, given, fits) refl
+
+given_stamp : (stamp : Text) → IsTrue (is_stamp stamp) → file_stamp_in stamp ≡ Ok stamp
+given_stamp stamp known = rw known refl
 
 file_stamp_read : (stamp : Option Text) → IfSome stamp (λ s. IsTrue (is_stamp s))
     → file_stamp_or_none_in (stamp_word stamp) ≡ Ok stamp
@@ -57,30 +63,18 @@ file_stamp_read (Some s) known =
     let dash = stamp_is_no_dash s known in
     rw (dash, known) refl
 
-stamp_read : {most : ℕ} (names : List Text) (t word content : Text) (after : List Text)
-    → IsTrue (is_name t)
-    → IsContentWord word content → AddsNames most names (Stamp t content ∷ []) after
-    → stamp_in most names (t ∷ word ∷ []) ≡ Ok (Stamp t content, after)
-unfolding stamp_in
-stamp_read {most} names t word content after good is adds =
-    let fits = one_fits names t (Stamp t content) after refl adds in
-    let given = content_read word content is in
-    rw (good, given, fits) refl
-
-done_read : {most : ℕ} (names : List Text) (t : Text) (stamp : Option Text) (after : List Text)
-    → IsTrue (is_name t) → IfSome stamp (λ s. IsTrue (is_stamp s))
-    → AddsNames most names (Done t stamp ∷ []) after
-    → done_in most names (t ∷ stamp_word stamp ∷ []) ≡ Ok (Done t stamp, after)
-unfolding done_in
-done_read {most} names t stamp after good known adds =
-    let fits = one_fits names t (Done t stamp) after refl adds in
-    let word = file_stamp_read stamp known in
-    rw (good, word, fits) refl
-
 stamp_word_is_visible : (stamp : Option Text) → IfSome stamp (λ s. IsTrue (is_stamp s))
     → IsVisible (stamp_word stamp)
 stamp_word_is_visible None known = refl
 stamp_word_is_visible (Some s) known = stamp_is_visible s known
+
+from_words : {most : ℕ} {names : List Text} {line : Text} {command : Command Text}
+    {after : List Text} (word : Text) (args : List Text) → line ≡ spaced word args
+    → IsVisible word × AllByRecursion IsVisible args
+    → words_in most names (word ∷ args) ≡ Ok (command, after)
+    → IsReadFrom most names line command after
+from_words word args text visible reads =
+    record { word = word; args = args; text = text; visible = visible; reads = reads }
 
 -- each command is read from a line of it
 pub read_from_words : {most : ℕ} (names : List Text) (line : Text) (command : Command Text)
@@ -88,105 +82,56 @@ pub read_from_words : {most : ℕ} (names : List Text) (line : Text) (command : 
     → HasForm command → IsSpelled line command → AddsNames most names (command ∷ []) after
     → IsReadFrom most names line command after
 unfolding words_in form_in no_words_in
-read_from_words {most} names line (File n stamp) after form spelled adds = record {
-  word = codes "file";
-  args = n ∷ stamp ∷ [];
-  text = spelled;
-  visible = (refl, (name_is_visible n form.0, (stamp_is_visible stamp form.1, tt)));
-  reads = file_read names n stamp after form.0 form.1 adds;
-}
-read_from_words {most} names line (Gone n) after form spelled adds = record {
-  word = codes "gone";
-  args = n ∷ [];
-  text = spelled;
-  visible = (refl, (name_is_visible n form, tt));
-  reads = one_name_read Gone names n after refl form adds;
-}
-read_from_words {most} names line (Lock t) after form spelled adds = record {
-  word = codes "lock";
-  args = t ∷ [];
-  text = spelled;
-  visible = (refl, (name_is_visible t form, tt));
-  reads = one_name_read Lock names t after refl form adds;
-}
-read_from_words {most} names line (Unlock t) after form spelled adds = record {
-  word = codes "unlock";
-  args = t ∷ [];
-  text = spelled;
-  visible = (refl, (name_is_visible t form, tt));
-  reads = one_name_read Unlock names t after refl form adds;
-}
-read_from_words {most} names line (Start t) after form spelled adds = record {
-  word = codes "start";
-  args = t ∷ [];
-  text = spelled;
-  visible = (refl, (name_is_visible t form, tt));
-  reads = one_name_read Start names t after refl form adds;
-}
-read_from_words {most} names line (IfChange t ns) after form spelled adds = record {
-  word = codes "ifchange";
-  args = t ∷ ns;
-  text = spelled;
-  visible = (refl, (name_is_visible t form.0, names_are_visible ns form.1.each));
-  reads = names_form_read IfChange names t ns after refl form.0 form.1 adds;
-}
-read_from_words {most} names line (IfCreate t ns) after form spelled adds = record {
-  word = codes "ifcreate";
-  args = t ∷ ns;
-  text = spelled;
-  visible = (refl, (name_is_visible t form.0, names_are_visible ns form.1.each));
-  reads = names_form_read IfCreate names t ns after refl form.0 form.1 adds;
-}
-read_from_words {most} names line (Always t) after form spelled adds = record {
-  word = codes "always";
-  args = t ∷ [];
-  text = spelled;
-  visible = (refl, (name_is_visible t form, tt));
-  reads = one_name_read Always names t after refl form adds;
-}
-read_from_words {most} names line (Stamp t content) after form spelled adds = record {
-  word = codes "stamp";
-  args = t ∷ spelled.0 ∷ [];
-  text = spelled.1;
-  visible =
-      (refl, (name_is_visible t form.0, (content_is_visible spelled.0 content spelled.2, tt)));
-  reads = stamp_read names t spelled.0 content after form.0 spelled.2 adds;
-}
-read_from_words {most} names line (Done t stamp) after form spelled adds = record {
-  word = codes "done";
-  args = t ∷ stamp_word stamp ∷ [];
-  text = spelled;
-  visible = (refl, (name_is_visible t form.0, (stamp_word_is_visible stamp form.1, tt)));
-  reads = done_read names t stamp after form.0 form.1 adds;
-}
-read_from_words {most} names line (Failed t) after form spelled adds = record {
-  word = codes "failed";
-  args = t ∷ [];
-  text = spelled;
-  visible = (refl, (name_is_visible t form, tt));
-  reads = one_name_read Failed names t after refl form adds;
-}
-read_from_words {most} names line Ood after form spelled adds = record {
-  word = codes "ood";
-  args = [];
-  text = spelled;
-  visible = (refl, tt);
-  reads = ap (λ (l : List Text). Ok (Ood, l)) (sym adds.0);
-}
-read_from_words {most} names line Targets after form spelled adds = record {
-  word = codes "targets";
-  args = [];
-  text = spelled;
-  visible = (refl, tt);
-  reads = ap (λ (l : List Text). Ok (Targets, l)) (sym adds.0);
-}
-read_from_words {most} names line Sources after form spelled adds = record {
-  word = codes "sources";
-  args = [];
-  text = spelled;
-  visible = (refl, tt);
-  reads = ap (λ (l : List Text). Ok (Sources, l)) (sym adds.0);
-}
+read_from_words {most} names line (File n stamp) after form spelled adds =
+    from_words (codes "file") (n ∷ stamp ∷ []) spelled
+    (refl, (name_is_visible n form.0, (stamp_is_visible stamp form.1, tt)))
+    (name_and_word_read file_stamp_in File names n stamp stamp after refl form.0
+    (given_stamp stamp form.1) adds)
+read_from_words {most} names line (Gone n) after form spelled adds =
+    from_words (codes "gone") (n ∷ []) spelled (refl, (name_is_visible n form, tt))
+    (one_name_read Gone names n after refl form adds)
+read_from_words {most} names line (Lock t) after form spelled adds =
+    from_words (codes "lock") (t ∷ []) spelled (refl, (name_is_visible t form, tt))
+    (one_name_read Lock names t after refl form adds)
+read_from_words {most} names line (Unlock t) after form spelled adds =
+    from_words (codes "unlock") (t ∷ []) spelled (refl, (name_is_visible t form, tt))
+    (one_name_read Unlock names t after refl form adds)
+read_from_words {most} names line (Start t) after form spelled adds =
+    from_words (codes "start") (t ∷ []) spelled (refl, (name_is_visible t form, tt))
+    (one_name_read Start names t after refl form adds)
+read_from_words {most} names line (IfChange t ns) after form spelled adds =
+    from_words (codes "ifchange") (t ∷ ns) spelled
+    (refl, (name_is_visible t form.0, names_are_visible ns form.1.each))
+    (names_form_read IfChange names t ns after refl form.0 form.1 adds)
+read_from_words {most} names line (IfCreate t ns) after form spelled adds =
+    from_words (codes "ifcreate") (t ∷ ns) spelled
+    (refl, (name_is_visible t form.0, names_are_visible ns form.1.each))
+    (names_form_read IfCreate names t ns after refl form.0 form.1 adds)
+read_from_words {most} names line (Always t) after form spelled adds =
+    from_words (codes "always") (t ∷ []) spelled (refl, (name_is_visible t form, tt))
+    (one_name_read Always names t after refl form adds)
+read_from_words {most} names line (Stamp t content) after form spelled adds =
+    from_words (codes "stamp") (t ∷ spelled.0 ∷ []) spelled.1
+    (refl, (name_is_visible t form.0, (content_is_visible spelled.0 content spelled.2, tt)))
+    (name_and_word_read content_in Stamp names t spelled.0 content after refl form.0
+    (content_read spelled.0 content spelled.2) adds)
+read_from_words {most} names line (Done t stamp) after form spelled adds =
+    from_words (codes "done") (t ∷ stamp_word stamp ∷ []) spelled
+    (refl, (name_is_visible t form.0, (stamp_word_is_visible stamp form.1, tt)))
+    (name_and_word_read file_stamp_or_none_in Done names t (stamp_word stamp) stamp after refl form.0
+    (file_stamp_read stamp form.1) adds)
+read_from_words {most} names line (Failed t) after form spelled adds =
+    from_words (codes "failed") (t ∷ []) spelled (refl, (name_is_visible t form, tt))
+    (one_name_read Failed names t after refl form adds)
+read_from_words {most} names line Ood after form spelled adds =
+    from_words (codes "ood") [] spelled (refl, tt)
+    (ap (λ (l : List Text). Ok (Ood, l)) (sym adds.0))
+read_from_words {most} names line Targets after form spelled adds =
+    from_words (codes "targets") [] spelled (refl, tt)
+    (ap (λ (l : List Text). Ok (Targets, l)) (sym adds.0))
+read_from_words {most} names line Sources after form spelled adds =
+    from_words (codes "sources") [] spelled (refl, tt)
+    (ap (λ (l : List Text). Ok (Sources, l)) (sym adds.0))
 
 few_listed : (t : Text) (ns : List Text) → IsNameList ns → length (t ∷ ns) ≤ 65536
 few_listed t ns list =

@@ -12,8 +12,6 @@ use Rattle.redodb_text.proofs.LineLaws.{line_found, line_only}
 
 -- a line is what it says after its guard, and the guard before it
 pub with_its_guard : (line : Text) → line ≡ with_guard (is_guarded line) (unguarded line)
-with_its_guard [] = refl
-with_its_guard (b ∷ []) = refl
 with_its_guard (b ∷ c ∷ bs) = by (eqb b 63) (eqb c 32) refl refl
   where
     by : (x y : Bool) → eqb b 63 ≡ x → eqb c 32 ≡ y
@@ -24,6 +22,7 @@ with_its_guard (b ∷ c ∷ bs) = by (eqb b 63) (eqb c 32) refl refl
         λ i. first i ∷ second i ∷ bs
     by true false e f = refl
     by false y e f = refl
+with_its_guard text = refl
 
 -- the bytes of a guard are text
 pub guard_is_text : (guarded : Bool) (text : Text)

@@ -1,10 +1,9 @@
 -- The names after an error.
-use Rattle.std.proofs.Common.{◌≡◌, ℕ, ◌+◌, ◌<◌, ◌≤◌, Bool, true, false, cond, List, [], ◌∷◌, ◌++◌, length, get_or, take, drop, Result, Ok, Err, refl, sym, ap, subst, ◌∙◌, arith, eqb, inl, inr, take-append-drop}
+use Rattle.std.proofs.Common.{◌≡◌, ℕ, ◌+◌, ◌<◌, ◌≤◌, true, false, List, [], ◌∷◌, ◌++◌, length, get_or, take, drop, Result, Ok, Err, refl, sym, ap, subst, ◌∙◌, inl, inr, take-append-drop}
 use Rattle.std.specs.Prelude.{IfErr, OnErr}
 use Rattle.std.specs.List.{list_all}
-use Rattle.std.proofs.lemmas.Bool.Decides.{nat_tests}
 use Rattle.std.proofs.lemmas.List.{take_more}
-use Rattle.redodb_names.specs.Names.{is_name, has, with_name}
+use Rattle.redodb_names.specs.Names.{is_name, with_name}
 use Rattle.redodb_model.specs.Names.{Text}
 use Rattle.redodb_commands.specs.declared.kind.Kind.{Kind}
 use Rattle.redodb_commands.specs.declared.kind.Kind.TheVariants as kinds
@@ -20,22 +19,9 @@ use Rattle.redodb_text.specs.Questions.{words_of, has_bad_byte}
 use Rattle.redodb_text.specs.Support.Faults.{AddsPrefix, LeavesNames}
 use Rattle.redodb_text.specs.Support.Reading.{Reads, added, target_and_names_in, LeavesPrefix, LeavesSome, LeavesWords}
 use Rattle.redodb_text.proofs.Added.{added_is}
-use Rattle.redodb_text.proofs.NameLists.{target_and_names_found, all_names, each_name, names_are_visible}
+use Rattle.redodb_text.proofs.NameLists.{full_at, target_and_names_found, all_names, each_name, names_are_visible}
 use Rattle.redodb_text.proofs.ScriptParts.{with_names-append}
 use Rattle.redodb_text.proofs.Spaced.{IsVisible, line_is_spaced, spaced_is_text}
-
--- a name that is not added meets a full list
-full_at : {most : ℕ} (names : List Text) (t : Text) (fault : LineFault)
-    → added most names t ≡ Err fault
-    → (fault ≡ TooManyNames) × (length names ≡ most)
-full_at {most} names t fault e = by (has names t) (eqb (length names) most) refl e
-  where
-    by : (b d : Bool) → eqb (length names) most ≡ d
-        → cond b (Ok names) (cond d (Err TooManyNames) (Ok (names ++ t ∷ []))) ≡ Err fault
-        → (fault ≡ TooManyNames) × (length names ≡ most)
-    by true d full h = absurd cc
-    by false true full h = (cc, grind (arith, nat_tests, full))
-    by false false full h = absurd cc
 
 -- the names with the first words, and with one more
 pub prefix_more : {most : ℕ} (start names after ws : List Text) (i : ℕ) (w : Text)

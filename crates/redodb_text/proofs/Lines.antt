@@ -4,6 +4,7 @@ use Rattle.std.proofs.lemmas.Bool.{ltb-false, ltb-true}
 use Rattle.std.proofs.lemmas.Option.{cond_some}
 use Rattle.std.specs.List.{slice_split, position_or_len, onto_first}
 use Rattle.std.proofs.lemmas.List.Splits.{slice_split_first}
+use Rattle.redodb_text.proofs.Places.{not_some}
 
 -- if a byte passes, the first part ends at it, and the part after it is split on
 pub cut_some : (p : ℕ → Bool) (xs : List ℕ) (i : ℕ) → position p xs ≡ Some i
@@ -25,12 +26,8 @@ split_whole p (x ∷ xs) le = by (p x) le (λ h. split_whole p xs h)
     by true h k = absurd (omega arith)
     by false h k = ap (onto_first x) (k (omega arith))
 
-not_before : (b : Bool) (n : ℕ) → cond b (Some n) None ≡ None → b ≡ false
-not_before true n e = absurd cc
-not_before false n e = refl
-
 -- if none passes, there is one part
 pub cut_none : (p : ℕ → Bool) (xs : List ℕ) → position p xs ≡ None → slice_split p xs ≡ xs ∷ []
 cut_none p xs e =
     split_whole p xs
-    (ltb-false _ _ (not_before (ltb (position_or_len p xs) (length xs)) (position_or_len p xs) e))
+    (ltb-false _ _ (not_some (ltb (position_or_len p xs) (length xs)) (position_or_len p xs) e))

@@ -2,7 +2,7 @@
 use Rattle.std.proofs.Common.{◌≡◌, ℕ, zero, suc, ◌+◌, ◌<◌, ◌≤◌, Bool, true, false, cond, List, [], ◌∷◌, ◌++◌, map, length, get_or, drop, Result, Ok, Err, refl, sym, ap, subst, ◌∙◌, arith, eqb, leb, ltb, not, ◌&&◌, append-nil, length-append, length-drop, drop-cons, add-one, Bor}
 use Rattle.std.specs.Prelude.{IsTrue}
 use Rattle.std.specs.List.{AllByRecursion, list_all}
-use Rattle.std.proofs.lemmas.Bool.{leb-true, le-leb, lt-leb, ltb-false, le-ltb}
+use Rattle.std.proofs.lemmas.Bool.{leb-true, le-leb, lt-leb, ltb-false, le-ltb, not-false}
 use Rattle.std.proofs.lemmas.Bool.Decides.{nat_tests}
 use Rattle.std.proofs.lemmas.List.{nil_from_length, length-map}
 use Rattle.std.proofs.Math.ListN.{get_or-map}
@@ -22,17 +22,18 @@ use Rattle.redodb_text.proofs.ScriptParts.{with_names-longer}
 use Rattle.redodb_text.proofs.Spaced.{IsVisible, name_is_visible}
 use Rattle.redodb_text.proofs.Steps.{both, unless_ok, same_given}
 
--- a name that is not added would be one too many
-full_with : {most : ℕ} (names : List Text) (t : Text) (fault : LineFault)
+-- a name that is not added is new and meets a full list
+pub full_at : {most : ℕ} (names : List Text) (t : Text) (fault : LineFault)
     → added most names t ≡ Err fault
-    → (fault ≡ TooManyNames) × (most < length (with_name names t))
-full_with {most} names t fault e = by (has names t) (eqb (length names) most) refl e
+    → (fault ≡ TooManyNames) × (length names ≡ most) × (with_name names t ≡ names ++ t ∷ [])
+full_at {most} names t fault e = by (has names t) (eqb (length names) most) refl e
   where
     by : (b d : Bool) → eqb (length names) most ≡ d
         → cond b (Ok names) (cond d (Err TooManyNames) (Ok (names ++ t ∷ []))) ≡ Err fault
-        → (fault ≡ TooManyNames) × (most < length (cond b names (names ++ t ∷ [])))
+        → (fault ≡ TooManyNames) × (length names ≡ most)
+        × (cond b names (names ++ t ∷ []) ≡ names ++ t ∷ [])
     by true d full h = absurd cc
-    by false true full h = (cc, grind (arith, nat_tests, full, length-append names (t ∷ [])))
+    by false true full h = (cc, grind (arith, nat_tests, full), refl)
     by false false full h = absurd cc
 
 -- so the others are too many with it
@@ -40,8 +41,9 @@ pub all_added-none : (most : ℕ) (names : List Text) (t : Text) (ts : List Text
     → added most names t ≡ Err fault → all_added most names (t ∷ ts) ≡ Err fault
 unfolding all_added
 all_added-none most names t ts fault e =
-    let full = full_with names t fault e in
-    let over : most < length (with_name names t) = full.1 in
+    let full = full_at names t fault e in
+    let over : most < length (with_name names t) =
+    omega (arith, full.1, ap length full.2, length-append names (t ∷ [])) in
     let longer : length (with_name names t) ≤ length (with_names (with_name names t) ts) =
     with_names-longer (with_name names t) ts in
     let test : leb (length (with_names (with_name names t) ts)) most ≡ false =
@@ -187,10 +189,6 @@ pub record IsTargetAndNames (args : List Text) (t : Text) (ns : List Text) : Typ
   pub target : IsTrue (is_name t)
   pub list : IsNameList ns
 
-pub not_false : (b : Bool) → not b ≡ false → b ≡ true
-not_false true e = refl
-not_false false e = absurd cc
-
 pub each_name : (ns : List Text) → list_all is_name ns ≡ true
     → AreAllNames ns
 each_name [] all = tt
@@ -210,12 +208,10 @@ all_names (n ∷ ns) each =
 pub target_and_names_found : (args : List Text) (t : Text) (ns : List Text)
     → target_and_names_in args ≡ Ok (t, ns) → IsTargetAndNames args t ns
 unfolding target_and_names_in
-target_and_names_found [] t ns e = absurd cc
-target_and_names_found (w ∷ []) t ns e = absurd cc
 target_and_names_found (w ∷ v ∷ vs) t ns e =
     let a = unless_ok (ltb 64 (length (v ∷ vs))) TooManyNames _ (t, ns) e in
     let b = unless_ok (not (list_all is_name (w ∷ v ∷ vs))) BadName _ (t, ns) a.1 in
-    let each = each_name (w ∷ v ∷ vs) (not_false (list_all is_name (w ∷ v ∷ vs)) b.0) in
+    let each = each_name (w ∷ v ∷ vs) (not-false (list_all is_name (w ∷ v ∷ vs)) b.0) in
     let same = same_given {X = Text × List Text} (w, v ∷ vs) (t, ns) b.1 in
     let target : w ≡ t = ap (λ (x : Text × List Text). x.0) same in
     let list : v ∷ vs ≡ ns = ap (λ (x : Text × List Text). x.1) same in
@@ -225,6 +221,7 @@ target_and_names_found (w ∷ v ∷ vs) t ns e =
       list = subst IsNameList list
           (record { some = omega arith; few = ltb-false _ _ a.0; each = each.1 });
     }
+target_and_names_found args t ns e = absurd cc
 
 -- and such words are read
 pub target_and_names_read : (t : Text) (ns : List Text) → IsTrue (is_name t) → IsNameList ns

@@ -2,6 +2,7 @@
 use Rattle.std.proofs.Common.{◌≡◌, ℕ, zero, suc, ◌<◌, Bool, true, false, cond, ◌||◌, ◌==◌, List, [], ◌∷◌, ◌++◌, ◌≤◌, ◌&&◌, length, map, arith, Some, slice_get, Ok, Err, refl, sym, ap, subst, ◌∙◌, append-nil, take, drop, take-append-drop, not}
 use Rattle.std.specs.Prelude.{bytes_eq}
 use Rattle.std.specs.List.{list_all}
+use Rattle.std.proofs.lemmas.Bool.{not-false, or_right}
 use Rattle.std.proofs.lemmas.List.{length-map}
 use Rattle.std.proofs.lemmas.Option.{get_or_from_slice_get, slice_get_within, slice_get-get_or}
 use Rattle.std.proofs.lemmas.Slice.Eq.{bytes_eq-Decides}
@@ -26,11 +27,7 @@ has_at [] n t e = absurd cc
 has_at (x ∷ xs) zero t e =
     let is : bytes_eq t x ≡ true = (bytes_eq-Decides t x).1 (sym (same_found x t e)) in
     ap (λ (b : Bool). b || has xs t) is
-has_at (x ∷ xs) (suc n) t e = or_true (bytes_eq t x) (has xs t) (has_at xs n t e)
-  where
-    or_true : (a b : Bool) → b ≡ true → (a || b) ≡ true
-    or_true true b h = refl
-    or_true false b h = h
+has_at (x ∷ xs) (suc n) t e = or_right (bytes_eq t x) (has xs t) (has_at xs n t e)
 
 each_at : (names : List Text) (n : ℕ) (t : Text) → AreAllNames names
     → slice_get names n ≡ Some t → is_name t ≡ true
@@ -60,10 +57,6 @@ added_known most names t n is =
 pub one_name : (t : Text) → is_name t ≡ true → words_of t ≡ t ∷ []
 one_name t is = ap words_of (sym (append-nil t)) ∙ words_of-spaced t [] (name_is_visible t is) tt
 
-no_false : (b : Bool) → false ≡ not b → b ≡ true
-no_false true e = refl
-no_false false e = absurd cc
-
 empty : (rest : Text) → length rest ≡ 0 → rest ≡ []
 empty [] e = refl
 empty (b ∷ bs) e = absurd (omega (arith, e))
@@ -73,7 +66,7 @@ begins : (name text first rest : Text)
     → (first ≡ take (length name) text) × (rest ≡ drop (length name) text)
     → false ≡ not (bytes_eq first name) → text ≡ name ++ rest
 begins name text first rest parts same =
-    let is : first ≡ name = (bytes_eq-Decides first name).0 (no_false (bytes_eq first name) same) in
+    let is : first ≡ name = (bytes_eq-Decides first name).0 (not-false (bytes_eq first name) (sym same)) in
     sym (take-append-drop (length name) text)
     ∙ (λ i. (sym parts.0 ∙ is) i ++ sym parts.1 i)
 

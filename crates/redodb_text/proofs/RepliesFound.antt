@@ -2,6 +2,7 @@
 use Rattle.std.proofs.Common.{◌≡◌, ℕ, Bool, true, false, cond, List, [], ◌∷◌, Option, Some, None, Result, Ok, Err, refl, sym, ap, subst, ◌∙◌, not}
 use Rattle.std.specs.Prelude.{codes, bytes_eq, decimal, ◌≢◌}
 use Rattle.std.specs.List.{list_all}
+use Rattle.std.proofs.lemmas.Bool.{not-false}
 use Rattle.std.proofs.lemmas.Slice.Eq.{bytes_eq-Decides}
 use Rattle.hex.specs.Hex.{encode_lower}
 use Rattle.redodb_names.specs.Names.{is_name}
@@ -18,7 +19,8 @@ use Rattle.redodb_text.specs.Replies.{IsGrant, IsDigest, AreAllNames, HasRefusal
 use Rattle.redodb_text.specs.Support.ReplyReading.{one_word_in, grant_in, digest_in, names_in_words, some_names_in_words, plain_refusal_in, refusal_in_words, okay_in, reply_word, reply_kind_named, reply_args_in, reply_words_in, reply_in}
 use Rattle.redodb_text.proofs.Steps.{bind_ok, guard_ok, unless_ok}
 use Rattle.redodb_text.proofs.FirstWords.{reply_word_is}
-use Rattle.redodb_text.proofs.NameLists.{not_false, each_name, all_added-is}
+use Rattle.redodb_text.proofs.RepliesRead.{args_of}
+use Rattle.redodb_text.proofs.NameLists.{each_name, all_added-is}
 use Rattle.redodb_text.proofs.ReplyWords.{grant_says, digest_says}
 use Rattle.redodb_text.proofs.Spaced.{line_is_spaced}
 
@@ -38,9 +40,8 @@ says_same word args a b says e =
 
 one_word_says : {X : Type 0} (reader : Text → Result X LineFault) (args : List Text) (x : X)
     → one_word_in reader args ≡ Ok x → (word : Text) × (args ≡ word ∷ []) × (reader word ≡ Ok x)
-one_word_says reader [] x e = absurd cc
 one_word_says reader (w ∷ []) x e = (w, refl, e)
-one_word_says reader (w ∷ v ∷ vs) x e = absurd cc
+one_word_says reader args x e = absurd cc
 
 grant_args_say : (args : List Text) (g : ℕ) → one_word_in grant_in args ≡ Ok g
     → IsGrant g × (args ≡ decimal g ∷ [])
@@ -63,14 +64,14 @@ names_say : (args ns : List Text) → names_in_words args ≡ Ok ns → AreAllNa
 names_say args ns e =
     let a = unless_ok (not (list_all is_name args)) BadName (list_read args) ns e in
     let same : args ≡ ns = cc in
-    (subst AreAllNames same (each_name args (not_false (list_all is_name args) a.0)), same)
+    (subst AreAllNames same (each_name args (not-false (list_all is_name args) a.0)), same)
 
 some_names_say : (args ns : List Text) → some_names_in_words args ≡ Ok ns
-    → (ns ≢ []) × AreAllNames ns × (args ≡ ns)
+    → ((ns ≢ []) × AreAllNames ns) × (args ≡ ns)
 some_names_say [] ns e = absurd cc
 some_names_say (w ∷ ws) ns e =
     let a = names_say (w ∷ ws) ns e in
-    (subst (λ (l : List Text). l ≢ []) a.1 (λ h. cc), a.0, a.1)
+    ((subst (λ (l : List Text). l ≢ []) a.1 (λ h. cc), a.0), a.1)
 
 -- the words are those of the refusal
 abbrev SaysRefusal : List Text → Refusal Text → Type 0
@@ -103,7 +104,6 @@ plain_refusal_says word refusal e =
 
 refusal_says : (args : List Text) (refusal : Refusal Text) → refusal_in_words args ≡ Ok refusal
     → SaysRefusal args refusal
-refusal_says [] refusal e = absurd cc
 refusal_says (w ∷ []) refusal e = plain_refusal_says w refusal e
 refusal_says (w ∷ n ∷ []) refusal e =
     let exists =
@@ -119,12 +119,24 @@ refusal_says (w ∷ n ∷ []) refusal e =
         → cond b r (Err WrongWords) ≡ Ok refusal → (b ≡ true) × (r ≡ Ok refusal)
     guard_or true r h = (refl, h)
     guard_or false r h = absurd cc
-refusal_says (w ∷ n ∷ v ∷ vs) refusal e = absurd cc
+refusal_says args refusal e = absurd cc
 
 okay_says : (args : List Text) (reply : Reply Text) → okay_in args ≡ Ok reply
     → SaysReply (codes "ok") args reply
 okay_says [] reply e = says_same (codes "ok") [] Okay reply (record { form = tt; text = refl }) e
 okay_says (w ∷ ws) reply e = absurd cc
+
+-- the words after a reply's word, if what they are read as makes the reply
+bound_says : {X : Type 0} {word : Text} {args : List Text} {reply : Reply Text}
+    (form : X → Reply Text) (reading : Result X LineFault)
+    → ((x : X) → spaced word (args_of (form x)) ≡ reply_text_of (form x))
+    → ((x : X) → reading ≡ Ok x → HasReplyForm (form x) × (args ≡ args_of (form x)))
+    → (reading >>= λ x. Ok (form x)) ≡ Ok reply → SaysReply word args reply
+bound_says {word = word} {args = args} {reply = reply} form reading text say e =
+    let a = bind_ok reading (λ x. Ok (form x)) reply e in
+    let b = say a.0 a.1 in
+    says_same word args (form a.0) reply
+    (record { form = b.0; text = ap (spaced word) b.1 ∙ text a.0 }) a.2
 
 -- the words after that of the kind
 args_say : (kind : ReplyKind) (args : List Text) (reply : Reply Text)
@@ -132,45 +144,21 @@ args_say : (kind : ReplyKind) (args : List Text) (reply : Reply Text)
 unfolding reply_args_in
 args_say kinds.Okay args reply e = okay_says args reply e
 args_say kinds.Granted args reply e =
-    let a = bind_ok (one_word_in grant_in args) (λ g. Ok (Granted g)) reply e in
-    let b = grant_args_say args a.0 a.1 in
-    says_same (codes "granted") args (Granted a.0) reply
-    (record { form = b.0; text = ap (spaced (codes "granted")) b.1 }) a.2
+    bound_says Granted (one_word_in grant_in args) (λ x. refl) (grant_args_say args) e
 args_say kinds.Busy args reply e =
-    let a = bind_ok (one_word_in grant_in args) (λ g. Ok (Busy g)) reply e in
-    let b = grant_args_say args a.0 a.1 in
-    says_same (codes "busy") args (Busy a.0) reply
-    (record { form = b.0; text = ap (spaced (codes "busy")) b.1 }) a.2
+    bound_says Busy (one_word_in grant_in args) (λ x. refl) (grant_args_say args) e
 args_say kinds.Stale args reply e =
-    let a = bind_ok (some_names_in_words args) (λ ns. Ok (Stale ns)) reply e in
-    let b = some_names_say args a.0 a.1 in
-    says_same (codes "stale") args (Stale a.0) reply
-    (record { form = (b.0, b.1); text = ap (spaced (codes "stale")) b.2 }) a.2
+    bound_says Stale (some_names_in_words args) (λ x. refl) (some_names_say args) e
 args_say kinds.Stamped args reply e =
-    let a = bind_ok (one_word_in digest_in args) (λ digest. Ok (Stamped digest)) reply e in
-    let b = digest_args_say args a.0 a.1 in
-    says_same (codes "stamped") args (Stamped a.0) reply
-    (record { form = b.0; text = ap (spaced (codes "stamped")) b.1 }) a.2
+    bound_says Stamped (one_word_in digest_in args) (λ x. refl) (digest_args_say args) e
 args_say kinds.Ood args reply e =
-    let a = bind_ok (names_in_words args) (λ ns. Ok (Ood ns)) reply e in
-    let b = names_say args a.0 a.1 in
-    says_same (codes "ood") args (Ood a.0) reply
-    (record { form = b.0; text = ap (spaced (codes "ood")) b.1 }) a.2
+    bound_says Ood (names_in_words args) (λ x. refl) (names_say args) e
 args_say kinds.Targets args reply e =
-    let a = bind_ok (names_in_words args) (λ ns. Ok (Targets ns)) reply e in
-    let b = names_say args a.0 a.1 in
-    says_same (codes "targets") args (Targets a.0) reply
-    (record { form = b.0; text = ap (spaced (codes "targets")) b.1 }) a.2
+    bound_says Targets (names_in_words args) (λ x. refl) (names_say args) e
 args_say kinds.Sources args reply e =
-    let a = bind_ok (names_in_words args) (λ ns. Ok (Sources ns)) reply e in
-    let b = names_say args a.0 a.1 in
-    says_same (codes "sources") args (Sources a.0) reply
-    (record { form = b.0; text = ap (spaced (codes "sources")) b.1 }) a.2
+    bound_says Sources (names_in_words args) (λ x. refl) (names_say args) e
 args_say kinds.Refused args reply e =
-    let a = bind_ok (refusal_in_words args) (λ refusal. Ok (Refused refusal)) reply e in
-    let b = refusal_says args a.0 a.1 in
-    says_same (codes "refused") args (Refused a.0) reply
-    (record { form = b.0; text = ap (spaced (codes "refused")) b.1 }) a.2
+    bound_says Refused (refusal_in_words args) (λ x. refl) (refusal_says args) e
 
 -- what is read by the words of a text is what it says
 words_say : (text : Text) (reply : Reply Text) → reply_words_in (words_of text) ≡ Ok reply

@@ -5,7 +5,7 @@ use Rattle.std.specs.List.{AllByRecursion, list_all}
 use Rattle.hex.specs.Hex.{encode_lower}
 use Rattle.redodb_names.specs.Names.{is_name}
 use Rattle.redodb_model.specs.Names.{Text}
-use Rattle.redodb_model.specs.Reply.{Refusal, NotLocked, Building, NotBuilding, Itself, Exists, Reply, Okay, Granted, Busy, Stale, Stamped, Ood, Targets, Sources, Refused}
+use Rattle.redodb_model.specs.Reply.{Refusal, Exists, Reply, Okay, Granted, Busy, Stale, Stamped, Ood, Targets, Sources, Refused}
 use Rattle.redodb_text.specs.declared.fault.LineFault.{LineFault}
 use Rattle.redodb_text.specs.declared.reply_kind.ReplyKind.{ReplyKind}
 use Rattle.redodb_text.specs.declared.reply_kind.ReplyKind.TheVariants as kinds
@@ -18,10 +18,10 @@ use Rattle.redodb_text.proofs.ReplyWords.{grant_read, grant_is_visible, digest_r
 use Rattle.redodb_text.proofs.Spaced.{IsVisible, name_is_visible, words_of-spaced}
 
 -- the words of a reply's text after the first, and that they are read as the reply
-record IsSaidBy (kind : ReplyKind) (args : List Text) (reply : Reply Text) : Type 0 where
-  text : reply_text_of reply ≡ spaced (reply_word kind) args
-  visible : AllByRecursion IsVisible args
-  reads : reply_args_in (Some kind) args ≡ Ok reply
+pub record IsSaidBy (kind : ReplyKind) (args : List Text) (reply : Reply Text) : Type 0 where
+  pub text : reply_text_of reply ≡ spaced (reply_word kind) args
+  pub visible : AllByRecursion IsVisible args
+  pub reads : reply_args_in (Some kind) args ≡ Ok reply
 
 names_read : (ns : List Text) → AreAllNames ns → names_in_words ns ≡ Ok ns
 names_read ns each =
@@ -34,21 +34,15 @@ some_names_read (n ∷ ns) some each = names_read (n ∷ ns) each
 
 refusal_read : (refusal : Refusal Text) → HasRefusalForm refusal
     → refusal_in_words (refusal_words refusal) ≡ Ok refusal
-refusal_read NotLocked form = refl
-refusal_read Building form = refl
-refusal_read NotBuilding form = refl
-refusal_read Itself form = refl
 refusal_read (Exists n) form = rw form refl
+refusal_read refusal form = refl
 
 refusal_is_visible : (refusal : Refusal Text) → HasRefusalForm refusal
     → AllByRecursion IsVisible (refusal_words refusal)
-refusal_is_visible NotLocked form = (refl, tt)
-refusal_is_visible Building form = (refl, tt)
-refusal_is_visible NotBuilding form = (refl, tt)
-refusal_is_visible Itself form = (refl, tt)
 refusal_is_visible (Exists n) form = (refl, (name_is_visible n form, tt))
+refusal_is_visible refusal form = (refl, tt)
 
-abbrev reply_kind_for : Reply Text → ReplyKind
+abbrev pub reply_kind_for : Reply Text → ReplyKind
 reply_kind_for Okay = kinds.Okay
 reply_kind_for (Granted g) = kinds.Granted
 reply_kind_for (Busy g) = kinds.Busy
@@ -59,7 +53,7 @@ reply_kind_for (Targets ns) = kinds.Targets
 reply_kind_for (Sources ns) = kinds.Sources
 reply_kind_for (Refused refusal) = kinds.Refused
 
-abbrev args_of : Reply Text → List Text
+abbrev pub args_of : Reply Text → List Text
 args_of Okay = []
 args_of (Granted g) = decimal g ∷ []
 args_of (Busy g) = decimal g ∷ []
@@ -71,7 +65,7 @@ args_of (Sources ns) = ns
 args_of (Refused refusal) = refusal_words refusal
 
 -- each reply is said by its words
-said : (reply : Reply Text) → HasReplyForm reply
+pub said : (reply : Reply Text) → HasReplyForm reply
     → IsSaidBy (reply_kind_for reply) (args_of reply) reply
 unfolding reply_args_in
 said Okay form = record { text = refl; visible = tt; reads = refl }
@@ -100,28 +94,14 @@ said (Refused refusal) form =
     let e = refusal_read refusal form in
     record { text = refl; visible = refusal_is_visible refusal form; reads = rw e refl }
 
-word_is_visible : (kind : ReplyKind) → IsVisible (reply_word kind)
+pub word_is_visible : (kind : ReplyKind) → IsVisible (reply_word kind)
 word_is_visible kinds.Okay = refl
-word_is_visible kinds.Granted = refl
-word_is_visible kinds.Busy = refl
-word_is_visible kinds.Stale = refl
-word_is_visible kinds.Stamped = refl
-word_is_visible kinds.Ood = refl
-word_is_visible kinds.Targets = refl
-word_is_visible kinds.Sources = refl
-word_is_visible kinds.Refused = refl
+word_is_visible kind = refl
 
 -- a kind's word names it
 kind_is_named : (kind : ReplyKind) → reply_kind_named (reply_word kind) ≡ Some kind
 kind_is_named kinds.Okay = refl
-kind_is_named kinds.Granted = refl
-kind_is_named kinds.Busy = refl
-kind_is_named kinds.Stale = refl
-kind_is_named kinds.Stamped = refl
-kind_is_named kinds.Ood = refl
-kind_is_named kinds.Targets = refl
-kind_is_named kinds.Sources = refl
-kind_is_named kinds.Refused = refl
+kind_is_named kind = refl
 
 -- the words of a reply's text are read as the reply
 words_read : (text : Text) (reply : Reply Text) → IsReplyText text reply

@@ -1,13 +1,14 @@
 -- Words of replies: the numbers of grants, and digests.
-use Rattle.std.proofs.Common.{◌≡◌, ◌≢◌, ℕ, zero, suc, ◌*◌, ◌<◌, ◌≤◌, inl, inr, ◌⊎◌, Bool, true, false, cond, ◌&&◌, List, [], ◌∷◌, length, get_or, Result, Ok, Err, refl, sym, ap, subst, ◌∙◌, arith, ltb, leb, append-nil}
+use Rattle.std.proofs.Common.{◌≡◌, ◌≢◌, ℕ, zero, suc, ◌*◌, ◌^◌, ◌<◌, ◌≤◌, inl, inr, ◌⊎◌, Bool, true, false, cond, ◌&&◌, List, [], ◌∷◌, length, get_or, Result, Ok, Err, refl, sym, ap, subst, ◌∙◌, arith, ltb, leb, append-nil}
 use Rattle.std.specs.Prelude.{bytes_eq, decimal}
 use Rattle.std.specs.Str.{all_ascii_digits}
-use Rattle.std.specs.Char.{is_ascii_digit}
-use Rattle.std.specs.Str.Parse.{digits_value}
+use Rattle.std.specs.Int.{IsInRange}
+use Rattle.std.specs.Str.Parse.{AllDigits, digits_value}
 use Rattle.std.proofs.lemmas.List.Elements.{recursion_from_All}
 use Rattle.std.proofs.lemmas.Bool.Decides.{nat_tests}
 use Rattle.std.proofs.lemmas.Slice.Eq.{bytes_eq-Decides}
-use Rattle.std.proofs.lemmas.Fmt.{decimal_digit}
+use Rattle.std.proofs.lemmas.Fmt.{decimal_digit, decimal_is_IsNumeral}
+use Rattle.std.proofs.lemmas.Str.Parse.{digit_from_value}
 use Rattle.hex.specs.Hex.{encode_lower, decode_sized, is_hex_digit}
 use Rattle.hex.specs.declared.error.FromHexError.{FromHexError}
 use Rattle.hex.proofs.HexLemmas.{decode_of-ok, decode_of-encode_lower, decode_sized-ok, decode_sized-twice, decode_sized-encode_lower}
@@ -54,19 +55,21 @@ grant_read g is =
     let le : leb g 4294967295 ≡ true = grind (arith, nat_tests, is.1) in
     rw (nonzero, digits, value, le) refl
 
-digit_is_visible : (c : ℕ) → is_ascii_digit c ≡ true → is_visible c ≡ true
+digit_is_visible : (c : ℕ) → IsInRange 48 57 c → is_visible c ≡ true
 digit_is_visible c h = grind (arith, nat_tests)
 
-decimals_are_visible : (word : Text) → all_ascii_digits word ≡ true → IsVisible word
-decimals_are_visible [] all = refl
-decimals_are_visible (c ∷ cs) all =
-    let k = both (is_ascii_digit c) (all_ascii_digits cs) all in
-    let first = digit_is_visible c k.0 in
-    let others = decimals_are_visible cs k.1 in
+numeral_is_visible : (w : Text) → AllDigits 10 w → IsVisible w
+numeral_is_visible [] h = refl
+numeral_is_visible (c ∷ cs) h =
+    let first = digit_is_visible c (digit_from_value c h.0) in
+    let others = numeral_is_visible cs h.1 in
     λ i. first i && others i
 
+pub decimal_is_visible : (n : ℕ) → n < 2 ^ 64 → IsVisible (decimal n)
+decimal_is_visible n h = numeral_is_visible (decimal n) (decimal_is_IsNumeral n h).0.1
+
 pub grant_is_visible : (g : ℕ) → IsGrant g → IsVisible (decimal g)
-grant_is_visible g is = decimals_are_visible (decimal g) (printed_digits g is.1)
+grant_is_visible g is = decimal_is_visible g (omega (arith, is.1))
 
 -- a word is read as a grant, or its fault is this
 grant_or_fault : (word : Text)

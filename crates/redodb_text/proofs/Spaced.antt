@@ -1,18 +1,19 @@
 -- Words with single spaces between them, and the pieces between single spaces.
-use Rattle.std.proofs.Common.{◌≡◌, ℕ, Bool, true, false, ◌||◌, ◌&&◌, not, List, [], ◌∷◌, ◌++◌, length, refl, sym, ap, ◌∙◌, append-nil, arith, ◌==◌}
+use Rattle.std.proofs.Common.{◌≡◌, ℕ, true, false, ◌||◌, ◌&&◌, not, List, [], ◌∷◌, ◌++◌, length, refl, sym, ap, ◌∙◌, append-nil, arith, ◌==◌}
 use Rattle.std.specs.Prelude.{codes, bytes_eq, nat_le}
 use Rattle.std.specs.List.{list_all, list_any, All, AllByRecursion, join_with_byte}
 use Rattle.std.proofs.lemmas.List.Splits.{slice_split_at, slice_split_none, join_with_byte-slice_split}
 use Rattle.std.proofs.lemmas.List.Concat.{flat_map-cons}
 use Rattle.std.proofs.lemmas.List.Elements.{All-from_recursion}
 use Rattle.std.proofs.lemmas.List.Folds.{list_any-append}
+use Rattle.std.proofs.lemmas.Bool.{not-true}
 use Rattle.std.proofs.lemmas.Bool.Decides.{nat_tests}
 use Rattle.redodb_names.specs.Names.{is_name, is_reserved}
 use Rattle.redodb_model.specs.Names.{Text, is_visible}
 use Rattle.redodb_commands.specs.Stamp.{is_stamp, is_placeholder}
 use Rattle.redodb_text.specs.Texts.{after_space, spaced}
 use Rattle.redodb_text.specs.Questions.{words_of, is_text_byte}
-use Rattle.redodb_text.proofs.Steps.{both}
+use Rattle.redodb_text.proofs.Steps.{both, neither}
 
 abbrev pub IsVisible : Text → Type 0
 IsVisible word = list_all is_visible word ≡ true
@@ -107,9 +108,5 @@ pub stamp_is_no_dash : (t : Text) → is_stamp t ≡ true → bytes_eq t (codes 
 unfolding is_stamp
 stamp_is_no_dash t h =
     let good = nat_le 1 (length t) && nat_le (length t) 64 && list_all is_visible t in
-    neither (bytes_eq t (codes "-")) (bytes_eq t (codes "=>"))
-    (both good (not (is_placeholder t)) h).1
-  where
-    neither : (a b : Bool) → not (a || b) ≡ true → a ≡ false
-    neither true b e = absurd cc
-    neither false b e = refl
+    (neither (bytes_eq t (codes "-")) (bytes_eq t (codes "=>"))
+    (not-true (is_placeholder t) (both good (not (is_placeholder t)) h).1)).0

@@ -44,7 +44,7 @@ fn one_name_of(names: &mut Names, args: Option<&[u8]>, most: u32) -> Result<u32,
     number_of(names, None, name, most)
 }
 
-#[tactic(auto, using(crate::proofs::Added::extends_same), unfolding(crate::specs::Support::Reading::file_in))]
+#[tactic(auto, using(crate::proofs::Added::extends_same), unfolding(crate::specs::Support::Reading::name_and_word_in))]
 fn file_of(
     alloc: Global,
     names: &mut Names,
@@ -67,7 +67,7 @@ fn file_of(
     Ok(Command::File(number, stamp))
 }
 
-#[tactic(auto, using(crate::proofs::Added::extends_same), unfolding(crate::specs::Support::Reading::stamp_in))]
+#[tactic(auto, using(crate::proofs::Added::extends_same), unfolding(crate::specs::Support::Reading::name_and_word_in))]
 fn stamp_of(
     alloc: Global,
     names: &mut Names,
@@ -90,7 +90,7 @@ fn stamp_of(
     Ok(Command::Stamp(number, content))
 }
 
-#[tactic(auto, using(crate::proofs::Added::extends_same), unfolding(crate::specs::Support::Reading::done_in))]
+#[tactic(auto, using(crate::proofs::Added::extends_same), unfolding(crate::specs::Support::Reading::name_and_word_in))]
 fn done_of(
     alloc: Global,
     names: &mut Names,

@@ -38,9 +38,8 @@ file_stamp_or_none_in word =
 
 -- decoded bytes, at least one
 abbrev pub some_content : Result Text FromHexError → Result Text LineFault
-some_content (Ok []) = Err BadHex
 some_content (Ok (b ∷ bs)) = Ok (b ∷ bs)
-some_content (Err e) = Err BadHex
+some_content decoded = Err BadHex
 
 -- "-" is empty content
 abbrev pub content_in : Text → Result Text LineFault
@@ -63,21 +62,19 @@ Reading = Result (Command Text × List Text) LineFault
 
 -- a form of one name
 unfoldable pub one_name_in : (most : ℕ) → (Text → Command Text) → List Text → List Text → Reading
-one_name_in most form names [] = Err WrongWords
 one_name_in most form names (n ∷ []) = do
   name ← name_in n
   after ← added most names name
   Ok (form name, after)
-one_name_in most form names (n ∷ w ∷ ws) = Err WrongWords
+one_name_in most form names args = Err WrongWords
 
 -- a name, and after it 1 to 64 names
 unfoldable pub target_and_names_in : List Text → Result (Text × List Text) LineFault
-target_and_names_in [] = Err WrongWords
-target_and_names_in (t ∷ []) = Err WrongWords
 target_and_names_in (t ∷ n ∷ ns) =
     if nat_lt 64 (length (n ∷ ns)) then Err TooManyNames
     else (if not (list_all is_name (t ∷ n ∷ ns)) then Err BadName
     else Ok (t, n ∷ ns))
+target_and_names_in args = Err WrongWords
 
 -- the names with all of these, if they are not too many then
 unfoldable pub all_added : ℕ → List Text → List Text → Result (List Text) LineFault
@@ -93,35 +90,24 @@ names_form_in most form names args = do
   after ← all_added most names (words.0 ∷ words.1)
   Ok (form words.0 words.1, after)
 
-unfoldable pub file_in : ℕ → List Text → List Text → Reading
-file_in most names [] = Err WrongWords
-file_in most names (n ∷ []) = Err WrongWords
-file_in most names (n ∷ s ∷ []) = do
+-- a form of a name and of another word
+unfoldable pub name_and_word_in : {X : Type 0} → (Text → Result X LineFault)
+    → (Text → X → Command Text) → ℕ → List Text → List Text → Reading
+name_and_word_in reader form most names (n ∷ w ∷ []) = do
   name ← name_in n
-  stamp ← file_stamp_in s
+  x ← reader w
   after ← added most names name
-  Ok (File name stamp, after)
-file_in most names (n ∷ s ∷ w ∷ ws) = Err WrongWords
+  Ok (form name x, after)
+name_and_word_in reader form most names args = Err WrongWords
 
-unfoldable pub stamp_in : ℕ → List Text → List Text → Reading
-stamp_in most names [] = Err WrongWords
-stamp_in most names (n ∷ []) = Err WrongWords
-stamp_in most names (n ∷ c ∷ []) = do
-  name ← name_in n
-  content ← content_in c
-  after ← added most names name
-  Ok (Stamp name content, after)
-stamp_in most names (n ∷ c ∷ w ∷ ws) = Err WrongWords
+abbrev pub file_in : ℕ → List Text → List Text → Reading
+file_in = name_and_word_in file_stamp_in File
 
-unfoldable pub done_in : ℕ → List Text → List Text → Reading
-done_in most names [] = Err WrongWords
-done_in most names (n ∷ []) = Err WrongWords
-done_in most names (n ∷ s ∷ []) = do
-  name ← name_in n
-  stamp ← file_stamp_or_none_in s
-  after ← added most names name
-  Ok (Done name stamp, after)
-done_in most names (n ∷ s ∷ w ∷ ws) = Err WrongWords
+abbrev pub stamp_in : ℕ → List Text → List Text → Reading
+stamp_in = name_and_word_in content_in Stamp
+
+abbrev pub done_in : ℕ → List Text → List Text → Reading
+done_in = name_and_word_in file_stamp_or_none_in Done
 
 -- a form without words
 unfoldable pub no_words_in : Command Text → List Text → List Text → Reading

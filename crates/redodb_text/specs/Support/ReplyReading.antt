@@ -19,9 +19,8 @@ use Rattle.redodb_text.specs.Replies.{names_in_reply}
 
 -- what the one word of the list is read as
 abbrev pub one_word_in : {X : Type 0} → (Text → Result X LineFault) → List Text → Result X LineFault
-one_word_in reader [] = Err WrongWords
 one_word_in reader (w ∷ []) = reader w
-one_word_in reader (w ∷ v ∷ vs) = Err WrongWords
+one_word_in reader args = Err WrongWords
 
 -- the number from 1 to 4,294,967,295 with these digits, without a sign or a leading zero
 unfoldable pub grant_in : Text → Result ℕ LineFault
@@ -57,11 +56,10 @@ plain_refusal_in word =
     else Err WrongWords)))
 
 abbrev pub refusal_in_words : List Text → Result (Refusal Text) LineFault
-refusal_in_words [] = Err WrongWords
 refusal_in_words (w ∷ []) = plain_refusal_in w
 refusal_in_words (w ∷ n ∷ []) =
     if bytes_eq w (codes "exists") then (name_in n >>= λ name. Ok (Exists name)) else Err WrongWords
-refusal_in_words (w ∷ n ∷ v ∷ vs) = Err WrongWords
+refusal_in_words args = Err WrongWords
 
 -- the word that a reply of the kind begins with
 abbrev pub reply_word : ReplyKind → Text
