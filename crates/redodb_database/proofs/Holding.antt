@@ -1,5 +1,5 @@
 -- The targets that a session holds.
-use Rattle.std.proofs.Common.{◌≡◌, ◌∙◌, ◌↔◌, ℕ, ◌<◌, ◌+◌, IsTrue, IsSome, Bool, true, false, cond, List, [], ◌∷◌, ◌++◌, Option, Some, None, length, get_or, take, refl, sym, ap, subst, inl, inr, arith}
+use Rattle.std.proofs.Common.{◌≡◌, ◌∙◌, ◌↔◌, ℕ, ◌<◌, ◌+◌, IsTrue, IsSome, Bool, true, false, List, [], ◌∷◌, ◌++◌, Option, Some, None, length, get_or, take, refl, sym, ap, subst, inl, inr, arith}
 use Rattle.std.specs.Cmp.{ranked}
 use Rattle.std.specs.List.{Contains, cons_option, dedup, filter, filter_map}
 use Rattle.std.specs.List.Sorted.{IsPermutation, IsStrictlyIncreasing}
@@ -9,13 +9,13 @@ use Rattle.std.proofs.lemmas.Bool.{cases_lt, eq-eqb, eqb-true, false≢true}
 use Rattle.std.specs.Prelude.{nat_eq}
 use Rattle.std.proofs.Math.ListN.{replicate}
 use Rattle.std.proofs.lemmas.List.{get_or_past, take_more}
-use Rattle.std.proofs.lemmas.List.Elements.{filter-append, filter_map-append}
+use Rattle.std.proofs.lemmas.List.Elements.{filter_map-append}
 use Rattle.std.proofs.lemmas.List.Kept.{Contains-dedup_nat, Contains-from_dedup}
 use Rattle.std.proofs.lemmas.List.Sorted.{Contains-permutation, IsPermutation-sym}
 use Rattle.redodb_memo.specs.Bits.{IsSet}
 use Rattle.redodb_model.specs.Names.{IsListed, by_number}
 use Rattle.redodb_model.specs.Step.{is_held_by}
-use Rattle.redodb_model.proofs.Members.{contains_first, contains_later, contains_cases, contains_none}
+use Rattle.redodb_model.proofs.Members.{contains_first, contains_later, contains_cases, contains_none, contains_filter}
 use Rattle.redodb_model.proofs.MorePlaces.{same_everywhere}
 use Rattle.redodb_database.specs.Support.Kept.{AreHolderNames}
 use Rattle.redodb_database.specs.Tables.{Tables, locks_of}
@@ -66,13 +66,6 @@ same_holders old new was is holders held right n =
     subst (λ (o : Option ℕ). IsSet is n ↔ IsSome o) (sym (holders n))
     (subst (λ (b : Bool). IsTrue b ↔ IsSome (get_or old n None)) (sym (held n)) (right n))
 
--- one more name that is tested
-pub filter_more : (p : ℕ → Bool) (xs : List ℕ) (k d : ℕ) → k < length xs
-    → filter p (take (k + 1) xs)
-    ≡ filter p (take k xs) ++ cond (p (get_or xs k d)) (get_or xs k d ∷ []) []
-filter_more p xs k d within =
-    ap (filter p) (take_more xs k d within) ∙ filter-append p (take k xs) (get_or xs k d ∷ [])
-
 -- one more name whose holder is asked for
 pub holder_more : (h : ℕ → Option ℕ) (xs : List ℕ) (k d : ℕ) → k < length xs
     → filter_map h (take (k + 1) xs)
@@ -85,39 +78,6 @@ holder_more h xs k d within =
     at : (o : Option ℕ) → cons_option o [] ≡ option_to_list o
     at None = refl
     at (Some s) = refl
-
--- the members that pass the test
-pub contains_filter : (p : ℕ → Bool) (xs : List ℕ) (t : ℕ)
-    → Contains (filter p xs) t ↔ (Contains xs t × IsTrue (p t))
-contains_filter p [] t =
-    (λ c. absurd (contains_none t c), λ h. absurd (contains_none t h.0))
-contains_filter p (x ∷ xs) t = at (contains_filter p xs t) (p x) refl
-  where
-    at : Contains (filter p xs) t ↔ (Contains xs t × IsTrue (p t)) → (b : Bool) → p x ≡ b
-        → Contains (cond b (x ∷ filter p xs) (filter p xs)) t
-        ↔ (Contains (x ∷ xs) t × IsTrue (p t))
-    at rest true passed = (
-      λ c. elim (contains_cases x (filter p xs) t c) [
-        | inl e ↦ (
-          subst (Contains (x ∷ xs)) e (contains_first x xs),
-          subst (λ u. IsTrue (p u)) e passed,
-        )
-        | inr later ↦ (let h = rest.0 later in
-            (contains_later x xs t h.0, h.1))
-      ],
-      λ h. elim (contains_cases x xs t h.0) [
-        | inl e ↦ subst (Contains (x ∷ filter p xs)) e (contains_first x (filter p xs))
-        | inr later ↦
-            contains_later x (filter p xs) t (rest.1 (later, h.1))
-      ],
-    )
-    at rest false failed = (
-      λ c. (let h = rest.0 c in (contains_later x xs t h.0, h.1)),
-      λ h. elim (contains_cases x xs t h.0) [
-        | inl e ↦ absurd (false≢true (sym failed ∙ subst (λ u. IsTrue (p u)) (sym e) h.1))
-        | inr later ↦ rest.1 (later, h.1)
-      ],
-    )
 
 -- the holders of the members
 pub contains_holder : (h : ℕ → Option ℕ) (xs : List ℕ) (s : ℕ)

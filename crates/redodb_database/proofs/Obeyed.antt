@@ -7,7 +7,7 @@ use Rattle.std.proofs.lemmas.Bool.{cases_eq, eq-eqb, ne_eqb}
 use Rattle.std.proofs.lemmas.List.{get_or-set_other}
 use Rattle.redodb_model.specs.Names.{Naming, by_number}
 use Rattle.redodb_model.specs.State.{Locks, State}
-use Rattle.redodb_model.specs.Command.{Command, File, Gone, Lock, Unlock, Start, IfChange, IfCreate, Always, Stamp, Done, Failed, Ood, Targets, Sources, asked_lock}
+use Rattle.redodb_model.specs.Command.{Command, Lock, Unlock, asked_lock}
 use Rattle.redodb_model.specs.Reply.{Refusal, Reply, Okay, Refused, lets_through}
 use Rattle.redodb_model.specs.Step.{Answers, Replies, records_after, after, verdict_of, holds_target, locks_after, locks_freed, unless_refused}
 use Rattle.redodb_model.proofs.LetThrough.{accepted_through, stopped_same, told_without_lock}
@@ -39,22 +39,11 @@ module _ (old : Tables) (s : ℕ) (holds : Bool) where
       → locks_after by_number (locks_of old) s
       (verdict_of by_number (tables_records old) s holds command) command
       ≡ freed by_number (locks_of old) (freed_by command reply)
-  freed_after (File n stamp) reply none h = refl
-  freed_after (Gone n) reply none h = refl
   freed_after (Lock t) reply none h = cc
   freed_after (Unlock t) reply none h =
       unlocked by_number (locks_of old) t reply
       (verdict_of by_number (tables_records old) s holds (Unlock t)) h
-  freed_after (Start t) reply none h = refl
-  freed_after (IfChange t ns) reply none h = refl
-  freed_after (IfCreate t ns) reply none h = refl
-  freed_after (Always t) reply none h = refl
-  freed_after (Stamp t content) reply none h = refl
-  freed_after (Done t stamp) reply none h = refl
-  freed_after (Failed t) reply none h = refl
-  freed_after Ood reply none h = refl
-  freed_after Targets reply none h = refl
-  freed_after Sources reply none h = refl
+  freed_after command reply none h = refl
 
   -- the state after it, if its target's lock is freed after its change
   pub obeyed : (new : Tables) (command : Command ℕ) (reply : Reply ℕ) → asked_lock command ≡ None

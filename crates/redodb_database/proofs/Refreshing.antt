@@ -8,7 +8,7 @@ use native.Mathlib.Decide.{ℕ_discrete}
 use Rattle.redodb_model.specs.Command as commands
 use Rattle.redodb_model.specs.Names.{Text, put, by_number}
 use Rattle.redodb_model.specs.Support.OutOfDate.{DifferAt}
-use Rattle.redodb_model.specs.State.{Cell, Mark, Records, TargetState, Idle, Building, Built, Failed, idle, is_building}
+use Rattle.redodb_model.specs.State.{Cell, Mark, Records, TargetState, Building, idle, is_building}
 use Rattle.redodb_model.specs.OutOfDate.{HasReason, OutOfDate, ReasonIn}
 use Rattle.redodb_model.proofs.Members.{contains_first, contains_cases, contains_none}
 use Rattle.redodb_model.proofs.Region.{differ_back, still_out}
@@ -38,10 +38,8 @@ is_or_far n t = dite (ℕ_discrete t n)
 
 reason_of_building : (r : Records ℕ) (t : ℕ) (state : TargetState) → IsTrue (is_building state)
     → ReasonIn state r t
-reason_of_building r t Idle building = absurd (false≢true building)
 reason_of_building r t (Building s) building = tt
-reason_of_building r t Built building = absurd (false≢true building)
-reason_of_building r t Failed building = absurd (false≢true building)
+reason_of_building r t state building = absurd (false≢true building)
 
 -- a write at a name leaves the others
 put_far : {X : Type 0} (n m : ℕ) (x : X) (f : ℕ → X) → (Contains (n ∷ []) m → ⊥)

@@ -1,8 +1,7 @@
 -- The verdict on a command as the database computes it.
-use Rattle.std.proofs.Common.{◌≡◌, ℕ, Bool, Option, Some, None, refl, sym, ap, ◌∙◌, arith}
+use Rattle.std.proofs.Common.{◌≡◌, ℕ, Bool, Option, Some, None, sym, ap, ◌∙◌, arith}
 use Rattle.std.specs.Option.{option_or}
 use Rattle.redodb_commands.specs.declared.command.Command.{Command}
-use Rattle.redodb_commands.specs.declared.command.Command.TheVariants as coded
 use Rattle.redodb_commands.specs.Meaning.{command_of}
 use Rattle.redodb_commands.specs.Support.Meaning.{kind_of}
 use Rattle.redodb_model.specs.Command as commands
@@ -13,23 +12,6 @@ use Rattle.redodb_model.specs.State.{Records, target_state}
 use Rattle.redodb_model.specs.Step.{verdict_of}
 use Rattle.redodb_records.specs.Refusals.{refusal_by_target, refusal_of_names, kind_for}
 use Rattle.redodb_records.proofs.Refusals.{verdict_on_target}
-
--- the kind of a command is that of its meaning
-same_kind : (command : Command) → kind_of command ≡ kind_for (command_of command)
-same_kind (coded.File n stamp) = refl
-same_kind (coded.Gone n) = refl
-same_kind (coded.Lock t) = refl
-same_kind (coded.Unlock t) = refl
-same_kind (coded.Start t) = refl
-same_kind (coded.IfChange t names) = refl
-same_kind (coded.IfCreate t names) = refl
-same_kind (coded.Always t) = refl
-same_kind (coded.Stamp t content) = refl
-same_kind (coded.Done t stamp) = refl
-same_kind (coded.Failed t) = refl
-same_kind coded.Ood = refl
-same_kind coded.Targets = refl
-same_kind coded.Sources = refl
 
 module _ (naming : Naming ℕ) (r : Records ℕ) (s : ℕ) (holds : Bool) where
   -- a command without a target is not refused
@@ -45,7 +27,7 @@ module _ (naming : Naming ℕ) (r : Records ℕ) (s : ℕ) (holds : Bool) where
       → option_or own names ≡ verdict_of naming r s holds (command_of command)
   refusal_by_parts command t own names on by_cell by_names =
       ap (λ (o : Option (replies.Refusal ℕ)). option_or o names)
-      (by_cell ∙ ap (refusal_by_target (target_state r t) s holds) (same_kind command))
+      by_cell
       ∙ ap (option_or
       (refusal_by_target (target_state r t) s holds (kind_for (command_of command)))) by_names
       ∙ verdict_on_target naming r s holds (command_of command) t (sym on)

@@ -4,7 +4,7 @@ use Rattle.std.specs.Prelude.{IsTrue, Contains}
 use Rattle.std.specs.List.{list_all}
 use Rattle.std.proofs.lemmas.List.Elements.{All-weaker, All-contains_itself}
 use Rattle.std.proofs.lemmas.List.Sums.{list_all-from_AllPass}
-use Rattle.redodb_model.specs.Command.{Command, File, Gone, Lock, Unlock, Start, IfChange, IfCreate, Always, Stamp, Done, Failed, Ood, Targets, Sources}
+use Rattle.redodb_model.specs.Command.{Command, Unlock, Start}
 use Rattle.redodb_model.specs.Names.{Naming, by_number}
 use Rattle.redodb_model.specs.State.{Records}
 use Rattle.redodb_model.specs.Step.{verdict_of, effect_of, records_after, unless_refused}
@@ -22,21 +22,9 @@ all_of_them test ns each =
 pub accepted_of_holder : (naming : Naming ℕ) (r : Records ℕ) (s : ℕ) (holds : Bool)
     (command : Command ℕ) → verdict_of naming r s holds command ≡ None
     → verdict_of naming r s true command ≡ None
-accepted_of_holder naming r s true command none = none
 accepted_of_holder naming r s false (Unlock t) none = cc
 accepted_of_holder naming r s false (Start t) none = cc
-accepted_of_holder naming r s false (File n stamp) none = none
-accepted_of_holder naming r s false (Gone n) none = none
-accepted_of_holder naming r s false (Lock t) none = none
-accepted_of_holder naming r s false (IfChange t ns) none = none
-accepted_of_holder naming r s false (IfCreate t ns) none = none
-accepted_of_holder naming r s false (Always t) none = none
-accepted_of_holder naming r s false (Stamp t content) none = none
-accepted_of_holder naming r s false (Done t stamp) none = none
-accepted_of_holder naming r s false (Failed t) none = none
-accepted_of_holder naming r s false Ood none = none
-accepted_of_holder naming r s false Targets none = none
-accepted_of_holder naming r s false Sources none = none
+accepted_of_holder naming r s holds command none = none
 
 -- the effect of an accepted command is what the command leaves
 pub changed_accepted : (old new : Tables) (s : ℕ) (holds : Bool) (command : Command ℕ)

@@ -1,9 +1,9 @@
 -- The value of the one-thread database.
-use Rattle.std.specs.Prelude.{◌≡◌, ℕ, ◌<◌, ◌^◌, ◌≤◌, Option, None, Some, slice_index, length}
+use Rattle.std.specs.Prelude.{◌≡◌, ℕ, ◌<◌, ◌^◌, ◌≤◌, Bool, true, false, Option, None, Some, is_some, slice_index, length}
 use Rattle.redodb_model.specs.Command.{Command, Unlock}
 use Rattle.redodb_model.specs.Reply.{Reply, Okay}
 use Rattle.redodb_records.specs.Cells.{cell_at}
-use Rattle.redodb_records.specs.Rows.{rows_count}
+use Rattle.redodb_records.specs.Rows.{Slot, rows_count}
 use Rattle.redodb_database.specs.Tables.{Tables, tables_count}
 
 -- no name was built or granted as often as there were calls
@@ -23,6 +23,11 @@ pub record KeepsLocks (old new : Tables) : Type 0 where
 abbrev pub freed_by : Command ℕ → Reply ℕ → Option ℕ
 freed_by (Unlock t) Okay = Some t
 freed_by command reply = None
+
+-- whether the slot has a created row, or a change row
+abbrev pub has_row : Bool → Slot → Bool
+has_row true slot = slot.created
+has_row false slot = is_some slot.change
 
 -- each list has a place for each name, each name has a number of 32 bits, and no name was built or
 -- granted more often than there were calls

@@ -1,5 +1,5 @@
 //! Questions about the database.
-ghost use Rattle.std.specs.Prelude.{◌≡◌, ℕ, ◌<◌, ◌≤◌, ◌↔◌, ◌++◌, Some, Contains, IfOk, IfSome, IsOk, OnOk, option_map, option_to_list, filter_map};
+ghost use Rattle.std.specs.Prelude.{◌≡◌, ℕ, ◌<◌, ◌≤◌, ◌↔◌, ◌++◌, Some, Contains, IfOk, IfSome, IsOk, IsTrue, OnOk, option_map, option_to_list, filter_map};
 ghost use Rattle.std.specs.List.Sorted.{IsStrictlyIncreasing};
 ghost use Rattle.redodb_model.specs.Changes.{changes};
 ghost use Rattle.redodb_model.specs.Deps.{AreDeps};
@@ -9,16 +9,17 @@ ghost use Rattle.redodb_model.specs.Support.Users.{AreUsersBelow, IsUnused};
 ghost use Rattle.redodb_model.specs.Support.Unknown.{IsUnknown};
 ghost use Rattle.redodb_model.specs.Why.{TellsWhy};
 ghost use Rattle.redodb_model.specs.Support.Why.{IsWhyBelow};
-ghost use Rattle.redodb_model.specs.OutOfDate.{HasChangeRow, HasCreatedRow, OutOfDate};
+ghost use Rattle.redodb_model.specs.OutOfDate.{OutOfDate};
 ghost use Rattle.redodb_model.specs.State.{target_state};
 ghost use Rattle.redodb_model.specs.Renaming.{AllBelow, IsBelow};
 ghost use Rattle.redodb_database.specs.Meaning.{deps_of, users_of, why_of};
 ghost use Rattle.redodb_records.specs.Meaning.{target_state_of};
-ghost use Rattle.redodb_records.specs.Rows.{slot_at};
+ghost use Rattle.redodb_records.specs.Rows.{slot_at, target_at};
 ghost use Rattle.redodb_records.specs.Target.{Ascending};
 ghost use Rattle.redodb_model.specs.Names.{IsListed, by_number};
 ghost use Rattle.redodb_commands.specs.Meaning.{command_of, reply_of};
 ghost use Rattle.redodb_database.specs.Tables.{state_of, tables_records, locks_of, tables_count};
+ghost use Rattle.redodb_database.specs.Support.Tables.{has_row};
 
 use crate::deps::Deps;
 use crate::redo::Redo;
@@ -28,6 +29,17 @@ use crate::why::{Why, search};
 use redodb_commands::{Command, FileStamp, Reply};
 use redodb_records::{Cell, Slot, State};
 use std::alloc::{AllocError, Global};
+
+/// Whether it has a created row, or a change row.
+fn has_row(slot: &Slot, created: bool) -> bool
+    ensures { result ≡ has_row created slot.now }
+{
+    if created {
+        slot.created()
+    } else {
+        slot.has_change()
+    }
+}
 
 fn push_holder(sessions: &mut Vec<u16>, holder: Option<u16>) -> Result<(), AllocError>
     ensures { OnOk result (sessions.new.items ≡ sessions.old.items ++ option_to_list holder) }
@@ -74,8 +86,8 @@ impl Redo {
         ensures below { IfOk result (λ deps. AreDepsBelow (tables_count self.now) (deps_of deps)) }
     {
         Ok(Deps {
-            change: self.change_names(alloc, t)?,
-            created: self.created_names(alloc, t)?,
+            change: self.names_with(alloc, t, false)?,
+            created: self.names_with(alloc, t, true)?,
             always: self.rows.always(t),
         })
     }
@@ -89,8 +101,8 @@ impl Redo {
             (λ users. AreUsersBelow (tables_count self.now) (users_of users)) }
     {
         Ok(Users {
-            change: self.change_users(alloc, n)?,
-            created: self.created_users(alloc, n)?,
+            change: numbers_at(alloc, self.rows.needed_by(n))?,
+            created: numbers_at(alloc, self.rows.awaited_by(n))?,
         })
     }
 
@@ -225,51 +237,17 @@ impl Redo {
         }
     }
 
-    /// The names on which the target has a change row.
-    fn change_names(&self, alloc: Global, t: u32) -> Result<Vec<u32>, AllocError>
+    /// The names on which the target has a created row, or a change row.
+    fn names_with(&self, alloc: Global, t: u32, created: bool) -> Result<Vec<u32>, AllocError>
         requires { t < tables_count self.now }
-        ensures listed { IfOk result
-            (λ names. IsListed by_number (HasChangeRow (tables_records self.now) t) names.items) }
+        ensures listed { IfOk result (λ names. IsListed by_number
+            (λ n. IsTrue (has_row created (slot_at (target_at self.now.rows t).slots n))) names.items) }
         ensures below { IfOk result (λ names. AllBelow (tables_count self.now) names.items) }
     {
         let mut names = Vec::new(alloc);
         for slot in self.rows.slots_of(t) {
-            push_if(&mut names, slot.name(), slot.has_change())?;
+            push_if(&mut names, slot.name(), has_row(slot, created))?;
         }
         Ok(names)
-    }
-
-    /// The names on which the target has a created row.
-    fn created_names(&self, alloc: Global, t: u32) -> Result<Vec<u32>, AllocError>
-        requires { t < tables_count self.now }
-        ensures listed { IfOk result
-            (λ names. IsListed by_number (HasCreatedRow (tables_records self.now) t) names.items) }
-        ensures below { IfOk result (λ names. AllBelow (tables_count self.now) names.items) }
-    {
-        let mut names = Vec::new(alloc);
-        for slot in self.rows.slots_of(t) {
-            push_if(&mut names, slot.name(), slot.created())?;
-        }
-        Ok(names)
-    }
-
-    /// The targets with a change row on it.
-    fn change_users(&self, alloc: Global, n: u32) -> Result<Vec<u32>, AllocError>
-        requires { n < tables_count self.now }
-        ensures listed { IfOk result (λ users. IsListed by_number
-            (λ t. HasChangeRow (tables_records self.now) t n) users.items) }
-        ensures below { IfOk result (λ users. AllBelow (tables_count self.now) users.items) }
-    {
-        numbers_at(alloc, self.rows.needed_by(n))
-    }
-
-    /// The targets with a created row on it.
-    fn created_users(&self, alloc: Global, n: u32) -> Result<Vec<u32>, AllocError>
-        requires { n < tables_count self.now }
-        ensures listed { IfOk result (λ users. IsListed by_number
-            (λ t. HasCreatedRow (tables_records self.now) t n) users.items) }
-        ensures below { IfOk result (λ users. AllBelow (tables_count self.now) users.items) }
-    {
-        numbers_at(alloc, self.rows.awaited_by(n))
     }
 }

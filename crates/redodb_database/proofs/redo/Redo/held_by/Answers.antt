@@ -1,12 +1,13 @@
 use Rattle.std.proofs.Common.{◌≡◌, ◌∙◌, ◌<◌, ◌↔◌, ℕ, Bool, cond, List, [], ◌∷◌, ◌++◌, length, get_or, ap, subst, sym}
 use Rattle.std.specs.List.{Contains, filter}
 use Rattle.std.specs.List.Sorted.{IsStrictlyIncreasing}
+use Rattle.std.proofs.lemmas.List.Elements.{filter_more}
 use Rattle.std.proofs.lemmas.List.Kept.{IsStrictlyIncreasing-filter}
 use Rattle.redodb_model.specs.Step.{is_held_by}
 use Rattle.redodb_model.proofs.Listing.{at_take_all, each_below}
 use Rattle.redodb_database.specs.Support.Kept.{AreHolderNames}
 use Rattle.redodb_database.specs.Tables.{Tables, tables_count, locks_of}
-use Rattle.redodb_database.proofs.Holding.{HeldBy, filter_more, held_below, held_members, rising}
+use Rattle.redodb_database.proofs.Holding.{HeldBy, held_below, held_members, rising}
 use Rattle.redodb_database.proofs.redo.Redo.held_by.Goals as goal
 use Rattle.redodb_database.proofs.redo.Redo.held_by.Goals.{After-drop-names-2}
 

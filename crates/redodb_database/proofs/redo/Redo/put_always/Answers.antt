@@ -1,7 +1,3 @@
-use Rattle.std.proofs.Common.{IsTrue, sym, subst}
-use Rattle.redodb_model.specs.State.{is_building, target_state}
-use Rattle.redodb_records.specs.Cells.{cell_at}
-use Rattle.redodb_database.specs.Tables.{Tables, tables_records}
 use Rattle.redodb_database.specs.Support.Kept.{tables_of}
 use Rattle.redodb_database.proofs.Effects.{put_for_always}
 use Rattle.redodb_database.proofs.Refreshing.{right_by_always, rows_refreshed}
@@ -10,9 +6,7 @@ use Rattle.redodb_database.proofs.redo.Redo.put_always.Goals as goal
 pub invariant_of-self : goal.invariant_of-self
 invariant_of-self c =
     let inside = c.self.inside in
-    let building : IsTrue (is_building (cell_at inside.records c.args.t).state) =
-    subst (λ (s : Tables). IsTrue (is_building (target_state (tables_records s) c.args.t)))
-    (sym c.self.view_is) c.requires.building in
+    let building = rw (← c.self.view_is) at c.requires.building in
     rows_refreshed c.put_always.new.self c.self.invariant c.put_always.ensures.count
     (right_by_always inside.memo inside.records inside.rows c.args.t c.self.invariant.memo_right
     building c.put_always.new.self c.put_always.ensures.rows)

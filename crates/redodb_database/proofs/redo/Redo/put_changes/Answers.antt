@@ -1,16 +1,10 @@
-use Rattle.std.proofs.Common.{IsTrue, sym, subst}
-use Rattle.redodb_model.specs.State.{is_building, target_state}
-use Rattle.redodb_records.specs.Cells.{cell_at}
-use Rattle.redodb_database.specs.Tables.{Tables, tables_records}
 use Rattle.redodb_database.proofs.Refreshing.{right_by_changes, rows_refreshed}
 use Rattle.redodb_database.proofs.redo.Redo.put_changes.Goals as goal
 
 pub invariant_of-self : goal.invariant_of-self
 invariant_of-self c =
     let inside = c.self.inside in
-    let building : IsTrue (is_building (cell_at inside.records c.args.t).state) =
-    subst (λ (s : Tables). IsTrue (is_building (target_state (tables_records s) c.args.t)))
-    (sym c.self.view_is) c.requires.building in
+    let building = rw (← c.self.view_is) at c.requires.building in
     rows_refreshed c.change_each.new.rows c.self.invariant c.change_each.ensures.count
     (right_by_changes inside.memo inside.records inside.rows c.args.t c.self.invariant.memo_right
     building c.change_each.ensures.after)

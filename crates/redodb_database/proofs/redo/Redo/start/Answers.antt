@@ -1,5 +1,4 @@
-use Rattle.std.proofs.Common.{◌<◌, IsTrue, length, refl, sym, subst}
-use Rattle.redodb_database.specs.Tables.{Tables}
+use Rattle.std.proofs.Common.{IsTrue, refl, subst}
 use Rattle.redodb_database.specs.Support.Kept.{tables_of}
 use Rattle.redodb_database.proofs.Effects.{started}
 use Rattle.redodb_database.proofs.Kept.{AreTables-set_cell, AreTables-set_rows}
@@ -16,8 +15,7 @@ refresh_started-requires-clause-right c =
 pub refresh_started-requires-clause-same : goal.refresh_started-requires-clause-same
 refresh_started-requires-clause-same c out =
     let inside = c.self.inside in
-    let below : c.args.t < length inside.records =
-    subst (λ (u : Tables). c.args.t < length u.cells) (sym c.self.view_is) c.requires.number in
+    let below = rw (← c.self.view_is) at c.requires.number in
     rw c.start.ensures
     (right_by_start inside.memo inside.records inside.rows c.args.t
     c.self.invariant.memo_right _ c.clear.new.self c.clear.ensures.rows below refl refl
@@ -36,7 +34,6 @@ invariant_of-self c =
 pub returns-clause-after : goal.returns-clause-after
 returns-clause-after c =
     let t = c.args.t in
-    let below : t < length c.self.inside.records =
-    subst (λ (u : Tables). t < length u.cells) (sym c.self.view_is) c.requires.number in
+    let below = rw (← c.self.view_is) at c.requires.number in
     rw (c.start.ensures, ← c.self.view_is)
     (started (tables_of c.self.inside) t c.clear.new.self c.args.s below c.clear.ensures.rows)
