@@ -6,7 +6,7 @@ use Rattle.std.specs.List.{AllByRecursion}
 use Rattle.hex.specs.Hex.{lower_digits}
 use Rattle.hex.proofs.HexLemmas.{decode_of-ok, length-encode_with}
 use Rattle.redodb_model.specs.Names.{Text}
-use Rattle.redodb_model.specs.Command.{Command, Item, commands_in, File, Gone, Lock, Unlock, Start, IfChange, IfCreate, Always, Stamp, Done, Failed, Ood, Targets, Sources, names_in}
+use Rattle.redodb_model.specs.Command.{Command, Item, commands_in, File, IfChange, IfCreate, Stamp, Done, Ood, Targets, Sources, names_in}
 use Rattle.redodb_text.specs.Texts.{after_space, spaced, content_word, command_text_of}
 use Rattle.redodb_text.specs.Grammar.{HasForm, IsContentWord, IsSpelled, IsCommandLine, AreItemLines}
 use Rattle.redodb_text.specs.Replies.{AreAllNames}
@@ -42,22 +42,10 @@ length-spaced first t a b same =
 -- a command's line is as long as its text
 length-spelled : (line : Text) (command : Command Text) → IsSpelled line command
     → length line ≡ length (command_text_of command)
-length-spelled line (File n stamp) e = ap length e
-length-spelled line (Gone n) e = ap length e
-length-spelled line (Lock t) e = ap length e
-length-spelled line (Unlock t) e = ap length e
-length-spelled line (Start t) e = ap length e
-length-spelled line (IfChange t ns) e = ap length e
-length-spelled line (IfCreate t ns) e = ap length e
-length-spelled line (Always t) e = ap length e
 length-spelled line (Stamp t content) (word, e, is) = ap length e
     ∙ length-spaced (codes "stamp") t word (content_word content)
     (length-content_word word content is)
-length-spelled line (Done t stamp) e = ap length e
-length-spelled line (Failed t) e = ap length e
-length-spelled line Ood e = ap length e
-length-spelled line Targets e = ap length e
-length-spelled line Sources e = ap length e
+length-spelled line command e = ap length e
 
 pub command_said : (line : Text) (command : Command Text)
     → IsCommandLine line command → IsSaid command
@@ -67,24 +55,18 @@ command_said line command (form, short, spelled) =
 pub commands_said : (lines : List Text) (items : List (Item Text))
     → AreItemLines lines items → AllByRecursion IsSaid (commands_in items)
 commands_said [] [] are = tt
-commands_said [] (item ∷ items) are = absurd are
-commands_said (line ∷ lines) [] are = absurd are
 commands_said (line ∷ lines) (item ∷ items) are =
     (command_said are.0.said item.command are.0.command, commands_said lines items are.1)
+commands_said lines items are = absurd are
 
 -- each of a command's names is one
 pub form_has_names : (command : Command Text) → HasForm command → AreAllNames (names_in command)
 form_has_names (File n stamp) form = (form.0, tt)
-form_has_names (Gone n) form = (form, tt)
-form_has_names (Lock t) form = (form, tt)
-form_has_names (Unlock t) form = (form, tt)
-form_has_names (Start t) form = (form, tt)
 form_has_names (IfChange t ns) form = (form.0, form.1.each)
 form_has_names (IfCreate t ns) form = (form.0, form.1.each)
-form_has_names (Always t) form = (form, tt)
 form_has_names (Stamp t content) form = (form.0, tt)
 form_has_names (Done t stamp) form = (form.0, tt)
-form_has_names (Failed t) form = (form, tt)
 form_has_names Ood form = tt
 form_has_names Targets form = tt
 form_has_names Sources form = tt
+form_has_names command form = (form, tt)

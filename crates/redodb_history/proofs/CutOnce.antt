@@ -65,13 +65,12 @@ any_cut b (c ∷ x) (d ∷ prefix) r s p e =
 pub same_prefix : {X : Type 0} (x y r s : List X) → length x ≡ length y → x ++ r ≡ y ++ s
     → (x ≡ y) × (r ≡ s)
 same_prefix [] [] r s long e = (refl, e)
-same_prefix [] (c ∷ y) r s long e = absurd (omega arith)
-same_prefix (c ∷ x) [] r s long e = absurd (omega arith)
 same_prefix (c ∷ x) (d ∷ y) r s long e =
     let first : c ≡ d = cc in
     let others : x ++ r ≡ y ++ s = cc in
     let both = same_prefix x y r s (omega arith) others in
     (λ i. first i ∷ both.0 i, both.1)
+same_prefix x y r s long e = absurd (omega arith)
 
 -- a cut at a space if a space is there
 pub one_cut_at_space : (line x rest prefix others : Text) → Without 32 x → line ≡ x ++ 32 ∷ rest

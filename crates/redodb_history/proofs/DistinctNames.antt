@@ -1,8 +1,8 @@
 -- Distinct names are at most as many as the names that they are among.
-use Rattle.std.proofs.Common.{◌≡◌, ◌≤◌, ◌||◌, Bool, true, false, cond, List, [], ◌∷◌, ◌++◌, length, refl, sym, ◌∙◌, subst, inl, inr, ◌⊎◌}
+use Rattle.std.proofs.Common.{◌≡◌, ◌≤◌, Bool, true, false, cond, List, [], ◌∷◌, ◌++◌, length, refl, sym, ◌∙◌, subst, inl, inr}
 use Rattle.std.specs.Prelude.{bytes_eq}
 use Rattle.std.specs.List.{IsDistinct}
-use Rattle.std.proofs.lemmas.Bool.{false≢true}
+use Rattle.std.proofs.lemmas.Bool.{false≢true, or_cases}
 use Rattle.std.proofs.lemmas.Cmp.{nat_list_eq_equiv}
 use Rattle.std.proofs.lemmas.List.Folds.{list_any-append}
 use Rattle.std.proofs.lemmas.Map.Keys.{IsDistinct-push}
@@ -14,10 +14,6 @@ use Rattle.redodb_model.specs.Names.{Text}
 use Rattle.redodb_text.specs.Grammar.{with_names}
 use Rattle.redodb_history.proofs.KnownNames.{IsKnown, AreKnown}
 
-either : (b c : Bool) → (b || c) ≡ true → (b ≡ true) ⊎ (c ≡ true)
-either true c e = inl refl
-either false c e = inr e
-
 -- with one name more, which is known
 with_one : (names prefix : List Text) (t q : Text) → (IsKnown prefix q → IsKnown names q)
     → IsKnown names t → IsKnown (with_name prefix t) q → IsKnown names q
@@ -26,10 +22,10 @@ with_one names prefix t q among known = by (has prefix t)
     by : (b : Bool) → IsKnown (cond b prefix (prefix ++ t ∷ [])) q → IsKnown names q
     by true h = among h
     by false h =
-        elim (either (has prefix q) (has (t ∷ []) q)
+        elim (or_cases (has prefix q) (has (t ∷ []) q)
         (sym (list_any-append (bytes_eq q) prefix (t ∷ [])) ∙ h)) [
           | inl k ↦ among k
-          | inr k ↦ elim (either (bytes_eq q t) false k) [
+          | inr k ↦ elim (or_cases (bytes_eq q t) false k) [
             | inl e ↦ subst (IsKnown names) (sym ((bytes_eq-Decides q t).0 e)) known
             | inr e ↦ absurd (false≢true e)
           ]

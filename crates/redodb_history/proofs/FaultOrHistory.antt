@@ -68,7 +68,7 @@ line_read names number text word rest session cut is = elim (cut_at_arrow rest) 
             session = is.0;
             command = command;
             reply = reply;
-            parts = line_parts text word rest command reply session cut is arrow;
+            parts = line_parts session cut is arrow;
             said = spelled;
             answered = its.0;
           },

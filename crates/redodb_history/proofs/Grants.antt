@@ -2,7 +2,7 @@
 use Rattle.std.proofs.Common.{ℕ, ◌+◌, ◌≤◌, Bool, true, false, cond, Option, Some, None, IsSome, arith}
 use Rattle.redodb_model.specs.Names.{Naming}
 use Rattle.redodb_model.specs.State.{Locks, empty}
-use Rattle.redodb_model.specs.Command.{Command, File, Gone, Lock, Unlock, Start, IfChange, IfCreate, Always, Stamp, Done, Failed, Ood, Targets, Sources}
+use Rattle.redodb_model.specs.Command.{Command, Lock, Unlock}
 use Rattle.redodb_model.specs.Reply.{Refusal}
 use Rattle.redodb_model.specs.Step.{locks_granted, locks_freed, locks_after, unless_refused}
 
@@ -52,20 +52,9 @@ module _ {N : Type 0} (naming : Naming N) (count : ℕ) (locks : Locks N)
   -- one command more
   pub few_after : (s : ℕ) (verdict : Option (Refusal N)) (command : Command N)
       → AreFewGrants (count + 1) (locks_after naming locks s verdict command)
-  few_after s verdict (File n stamp) = few_later
-  few_after s verdict (Gone n) = few_later
   few_after s verdict (Lock t) = few_granted (locks.holder t) s t
   few_after s verdict (Unlock t) = few_freed verdict t
-  few_after s verdict (Start t) = few_later
-  few_after s verdict (IfChange t ns) = few_later
-  few_after s verdict (IfCreate t ns) = few_later
-  few_after s verdict (Always t) = few_later
-  few_after s verdict (Stamp t content) = few_later
-  few_after s verdict (Done t stamp) = few_later
-  few_after s verdict (Failed t) = few_later
-  few_after s verdict Ood = few_later
-  few_after s verdict Targets = few_later
-  few_after s verdict Sources = few_later
+  few_after s verdict command = few_later
 
 pub few_at_first : {N : Type 0} → AreFewGrants 0 (empty {N = N}).locks
 few_at_first = record { few = λ t. omega arith; held = λ t h. cc }

@@ -13,7 +13,7 @@ use Rattle.redodb_history.specs.Support.HistoryTexts.{AddsLineNames}
 use Rattle.redodb_history.specs.HistoryFaults.{IsReadUpTo, IsReadBefore, IsHistoryFault}
 use Rattle.redodb_history.specs.Support.HistoryFaults.{IsLineCause}
 use Rattle.redodb_history.specs.declared.fault.HistoryFault.{HistoryFault}
-use Rattle.redodb_history.specs.declared.fault.HistoryFault.TheVariants.{Memory, BadHeader, Cut, BadSession, BadLine, BadReply}
+use Rattle.redodb_history.specs.declared.fault.HistoryFault.TheVariants.{Memory, BadHeader, Cut}
 
 -- these lines are read, with these names, and this is what is left of the input
 pub record IsReadSoFar (input : Text) (count : ℕ) (lines : List (histories.Line Text))
@@ -22,36 +22,26 @@ pub record IsReadSoFar (input : Text) (count : ℕ) (lines : List (histories.Lin
   pub read : AreLinesOf texts lines names
   pub parts : input ≡ header_of count ++ flat_map ended texts ++ left
 
-pub flat_map_push : {X : Type 0} (f : X → Text) (xs : List X) (x : X)
+pub flat_map_push : {X Y : Type 0} (f : X → List Y) (xs : List X) (x : X)
     → flat_map f (xs ++ x ∷ []) ≡ flat_map f xs ++ f x
-flat_map_push f xs x = flat_map-append f xs (x ∷ []) ∙ ap (λ (l : Text). flat_map f xs ++ l)
-    (append-nil (f x))
-
-names_push : (lines : List (histories.Line Text)) (line : histories.Line Text)
-    → flat_map names_in_line (lines ++ line ∷ []) ≡ flat_map names_in_line lines
-    ++ names_in_line line
-names_push [] line = append-nil (names_in_line line)
-names_push (first ∷ lines) line = ap (λ (l : List Text). names_in_line first ++ l)
-    (names_push lines line)
-    ∙ sym (append_assoc (names_in_line first) (flat_map names_in_line lines) (names_in_line line))
+flat_map_push {X} {Y} f xs x =
+    flat_map-append f xs (x ∷ []) ∙ ap (λ (l : List Y). flat_map f xs ++ l) (append-nil (f x))
 
 pub texts_count : (texts : List Text) (lines : List (histories.Line Text))
     → AreHistoryLines texts lines
     → length texts ≡ length lines
 texts_count [] [] each = refl
-texts_count [] (line ∷ lines) each = absurd each
-texts_count (text ∷ texts) [] each = absurd each
 texts_count (text ∷ texts) (line ∷ lines) each = omega (arith, texts_count texts lines each.1)
+texts_count texts lines each = absurd each
 
 pub each_more : (texts : List Text) (lines : List (histories.Line Text)) (text : Text)
     (line : histories.Line Text)
     → AreHistoryLines texts lines → IsHistoryLine text line
     → AreHistoryLines (texts ++ text ∷ []) (lines ++ line ∷ [])
 each_more [] [] text line each is = (is, tt)
-each_more [] (other ∷ lines) text line each is = absurd each
-each_more (first ∷ texts) [] text line each is = absurd each
 each_more (first ∷ texts) (other ∷ lines) text line each is =
     (each.0, each_more texts lines text line each.1 is)
+each_more texts lines text line each is = absurd each
 
 pub ended_cut : (left text after : Text) → left ≡ text ++ 10 ∷ after → left ≡ ended text ++ after
 ended_cut left text after cut = cut ∙ sym (append_assoc text (10 ∷ []) after)
@@ -62,7 +52,7 @@ pub lines_named : (lines : List (histories.Line Text)) (line : histories.Line Te
 lines_named lines line names new are adds = (
   adds.0 ∙ ap (λ (ns : List Text). with_names ns (names_in_line line)) are.0
       ∙ sym (with_names-append [] (flat_map names_in_line lines) (names_in_line line))
-      ∙ ap (with_names []) (sym (names_push lines line)),
+      ∙ ap (with_names []) (sym (flat_map_push names_in_line lines line)),
   adds.1,
 )
 
@@ -136,9 +126,5 @@ pub line_fails : (input : Text) (number : ℕ) (names : List Text) (line : Text)
 line_fails input number names line Memory before cause = tt
 line_fails input number names line BadHeader before cause = absurd cause
 line_fails input number names line Cut before cause = absurd cause
-line_fails input number names line (BadSession at) before cause =
-    (names, line, subst (λ (n : ℕ). IsReadBefore input n names line) (sym cause.0) before, cause.1)
-line_fails input number names line (BadLine at fault) before cause =
-    (names, line, subst (λ (n : ℕ). IsReadBefore input n names line) (sym cause.0) before, cause.1)
-line_fails input number names line (BadReply at) before cause =
+line_fails input number names line fault before cause =
     (names, line, subst (λ (n : ℕ). IsReadBefore input n names line) (sym cause.0) before, cause.1)

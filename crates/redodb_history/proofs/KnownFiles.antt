@@ -6,7 +6,7 @@ use Rattle.sha1.specs.Sha1.{sha1}
 use Rattle.redodb_model.specs.Names.{Text, texts, put}
 use Rattle.redodb_model.specs.State.{State, Records, Cell, Building, Built, empty}
 use Rattle.redodb_model.specs.State as states
-use Rattle.redodb_model.specs.Command.{Command, File, Gone, Lock, Unlock, Start, IfChange, IfCreate, Always, Stamp, Done, Failed, Ood, Targets, Sources, names_in}
+use Rattle.redodb_model.specs.Command.{Command, File, Gone, Start, Stamp, Done, Failed, names_in}
 use Rattle.redodb_model.specs.Reply.{Refusal}
 use Rattle.redodb_model.specs.OutOfDate.{HasFile}
 use Rattle.redodb_model.specs.Step.{effect_of, unless_refused, verdict_of, holds_target, after}
@@ -30,13 +30,8 @@ module _ (names : List Text) (r : Records Text) (known : AreFilesKnown names r) 
       → AreFilesKnown names (effect_of texts r s command)
   effect_known s (File n stamp) are = put_known n (record (r.cell n) { file = Some stamp }) are.0
   effect_known s (Gone n) are = put_known n (record (r.cell n) { file = None }) are.0
-  effect_known s (Lock t) are = known
-  effect_known s (Unlock t) are = known
   effect_known s (Start t) are =
       put_known t (record (r.cell t) { state = Building s; digest = None }) are.0
-  effect_known s (IfChange t ns) are = known
-  effect_known s (IfCreate t ns) are = known
-  effect_known s (Always t) are = known
   effect_known s (Stamp t content) are =
       put_known t (record (r.cell t) { digest = Some (sha1 content) }) are.0
   effect_known s (Done t stamp) are =
@@ -48,9 +43,7 @@ module _ (names : List Text) (r : Records Text) (known : AreFilesKnown names r) 
         done = stamp;
       }) are.0
   effect_known s (Failed t) are = put_known t (record (r.cell t) { state = states.Failed }) are.0
-  effect_known s Ood are = known
-  effect_known s Targets are = known
-  effect_known s Sources are = known
+  effect_known s command are = known
 
   unless_known : (verdict : Option (Refusal Text)) (new : Records Text) → AreFilesKnown names new
       → AreFilesKnown names (unless_refused verdict r new)

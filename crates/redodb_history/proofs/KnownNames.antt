@@ -1,13 +1,13 @@
 -- Names that are read one after another: which are known, and stay known.
-use Rattle.std.proofs.Common.{◌≡◌, ◌||◌, Bool, true, false, cond, List, [], ◌∷◌, ◌++◌, refl, sym, ap, ◌∙◌, subst, inl, inr}
+use Rattle.std.proofs.Common.{◌≡◌, ◌||◌, Bool, true, false, cond, List, [], ◌∷◌, ◌++◌, get_or, refl, sym, ap, ◌∙◌, subst}
 use Rattle.std.specs.Prelude.{IsTrue, bytes_eq}
 use Rattle.std.specs.List.{AllByRecursion, Contains}
-use Rattle.std.proofs.lemmas.Bool.{false≢true}
+use Rattle.std.proofs.lemmas.Bool.{false≢true, or_left, or_right}
+use Rattle.std.proofs.lemmas.List.Elements.{All-contains, All-from_recursion, Contains-get_or, recursion_from_All}
 use Rattle.std.proofs.lemmas.Slice.Eq.{bytes_eq-Decides}
 use Rattle.std.proofs.lemmas.List.Folds.{list_any-append}
 use Rattle.redodb_names.specs.Names.{has, with_name, is_name}
 use Rattle.redodb_model.specs.Names.{Text}
-use Rattle.redodb_model.proofs.Members.{contains_first, contains_later, contains_cases, contains_none}
 use Rattle.redodb_text.specs.Grammar.{with_names}
 use Rattle.redodb_text.specs.Replies.{AreAllNames}
 
@@ -18,22 +18,14 @@ IsKnown names n = has names n ≡ true
 abbrev pub AreKnown : List Text → List Text → Type 0
 AreKnown names ns = AllByRecursion (IsKnown names) ns
 
-true_left : (b c : Bool) → b ≡ true → (b || c) ≡ true
-true_left true c e = refl
-true_left false c e = absurd (false≢true e)
-
-true_right : (b c : Bool) → c ≡ true → (b || c) ≡ true
-true_right true c e = refl
-true_right false c e = e
-
 known_in_prefix : (names more : List Text) (n : Text) → IsKnown names n → IsKnown (names ++ more) n
 known_in_prefix names more n known = list_any-append (bytes_eq n) names more
-    ∙ true_left (has names n) (has more n) known
+    ∙ or_left (has names n) (has more n) known
 
 known_last : (names : List Text) (n : Text) → IsKnown (names ++ n ∷ []) n
 known_last names n = list_any-append (bytes_eq n) names (n ∷ [])
-    ∙ true_right (has names n) (has (n ∷ []) n)
-    (true_left (bytes_eq n n) false ((bytes_eq-Decides n n).1 refl))
+    ∙ or_right (has names n) (has (n ∷ []) n)
+    (or_left (bytes_eq n n) false ((bytes_eq-Decides n n).1 refl))
 
 known-with_name : (names : List Text) (t n : Text) → IsKnown names n → IsKnown (with_name names t) n
 known-with_name names t n known = by (has names t)
@@ -113,14 +105,9 @@ known_are_names names (n ∷ ns) each known =
 -- what is true of each member, one by one
 pub all_members : {X : Type 0} (P : X → Type 0) (xs : List X) → ((x : X) → Contains xs x → P x)
     → AllByRecursion P xs
-all_members P [] of = tt
-all_members P (x ∷ xs) of =
-    (of x (contains_first x xs), all_members P xs (λ y h. of y (contains_later x xs y h)))
+all_members P xs of =
+    recursion_from_All P xs (λ k d below. of (get_or xs k d) (Contains-get_or xs k d below))
 
 pub member_of_all : {X : Type 0} (P : X → Type 0) (xs : List X) (y : X) → AllByRecursion P xs
     → Contains xs y → P y
-member_of_all P [] y all h = absurd (contains_none y h)
-member_of_all P (x ∷ xs) y all h = elim (contains_cases x xs y h) [
-  | inl e ↦ subst P e all.0
-  | inr k ↦ member_of_all P xs y all.1 k
-]
+member_of_all P xs y all = All-contains P xs y (All-from_recursion P xs all)

@@ -9,10 +9,10 @@ use Rattle.redodb_text.proofs.ScriptParts.{with_names-append}
 use Rattle.redodb_history.specs.Support.HistoryTexts.{AddsLineNames}
 use Rattle.redodb_history.specs.HistoryFaults.{arrow, IsCutAtSpace, IsCutAtArrow, IsSessionWord}
 
-pub line_parts : (text word rest command reply : Text) (session : ℕ) → IsCutAtSpace text word rest
+pub line_parts : {text word rest command reply : Text} (session : ℕ) → IsCutAtSpace text word rest
     → IsSessionWord 64 word session → IsCutAtArrow rest command reply
     → text ≡ decimal (session + 1) ++ codes " " ++ command ++ codes " => " ++ reply
-line_parts text word rest command reply session cut is at_arrow = by cut.parts
+line_parts {text} {word} {rest} {command} {reply} session cut is at_arrow = by cut.parts
   where
     by : (text ≡ word ++ 32 ∷ rest) ⊎ ((text ≡ word) × (rest ≡ []))
         → text ≡ decimal (session + 1) ++ codes " " ++ command ++ codes " => " ++ reply

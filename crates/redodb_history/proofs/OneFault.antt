@@ -71,18 +71,15 @@ one_cause : (names : List Text) (number : ℕ) (line : Text) (a b : HistoryFault
 one_cause names number line Memory b real other p q = absurd (real refl)
 one_cause names number line BadHeader b real other p q = absurd p
 one_cause names number line Cut b real other p q = absurd p
-one_cause names number line (BadSession n) Memory real other p q = absurd (other refl)
-one_cause names number line (BadSession n) BadHeader real other p q = absurd q
-one_cause names number line (BadSession n) Cut real other p q = absurd q
+one_cause names number line a Memory real other p q = absurd (other refl)
+one_cause names number line a BadHeader real other p q = absurd q
+one_cause names number line a Cut real other p q = absurd q
 one_cause names number line (BadSession n) (BadSession m) real other p q =
     ap BadSession (p.0 ∙ sym q.0)
 one_cause names number line (BadSession n) (BadLine m fault) real other p q =
     absurd (no_session line q.1.0 p.1 q.1.3)
 one_cause names number line (BadSession n) (BadReply m) real other p q =
     absurd (no_session line q.1.0 p.1 q.1.1)
-one_cause names number line (BadLine n fault) Memory real other p q = absurd (other refl)
-one_cause names number line (BadLine n fault) BadHeader real other p q = absurd q
-one_cause names number line (BadLine n fault) Cut real other p q = absurd q
 one_cause names number line (BadLine n fault) (BadSession m) real other p q =
     absurd (no_session line p.1.0 q.1 p.1.3)
 one_cause names number line (BadLine n fault) (BadLine m wrong) real other p q =
@@ -91,9 +88,6 @@ one_cause names number line (BadLine n fault) (BadLine m wrong) real other p q =
     λ i. BadLine (number_is i) (fault_is i)
 one_cause names number line (BadLine n fault) (BadReply m) real other p q =
     absurd (command_or_reply names line fault p.1 q.1)
-one_cause names number line (BadReply n) Memory real other p q = absurd (other refl)
-one_cause names number line (BadReply n) BadHeader real other p q = absurd q
-one_cause names number line (BadReply n) Cut real other p q = absurd q
 one_cause names number line (BadReply n) (BadSession m) real other p q =
     absurd (no_session line p.1.0 q.1 p.1.1)
 one_cause names number line (BadReply n) (BadLine m fault) real other p q =
@@ -259,12 +253,8 @@ headed input fault stop bad =
     (up.parts ∙ append_assoc (header_of up.count) (flat_map ended up.texts) stop.left)
 
 is_header : (fault : HistoryFault) → (fault ≡ BadHeader) ⊎ (fault ≢ BadHeader)
-is_header Memory = inr (λ e. absurd cc)
 is_header BadHeader = inl refl
-is_header Cut = inr (λ e. absurd cc)
-is_header (BadSession n) = inr (λ e. absurd cc)
-is_header (BadLine n fault) = inr (λ e. absurd cc)
-is_header (BadReply n) = inr (λ e. absurd cc)
+is_header fault = inr (λ e. absurd cc)
 
 pub one_fault : (input : Text) (a b : HistoryFault) → a ≢ Memory → b ≢ Memory
     → IsHistoryFault input a → IsHistoryFault input b → a ≡ b

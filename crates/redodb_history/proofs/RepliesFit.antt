@@ -3,7 +3,7 @@ use Rattle.std.proofs.Common.{◌≡◌, ℕ, ◌+◌, ◌≤◌, Bool, true, fa
 use Rattle.std.specs.Prelude.{MatchOption, find, ⊤}
 use Rattle.redodb_model.specs.Names.{Text, texts, IsListed}
 use Rattle.redodb_model.specs.State.{State, Records, has_file, target_state, is_building}
-use Rattle.redodb_model.specs.Command.{Command, File, Gone, Lock, Unlock, Start, IfChange, IfCreate, Always, Stamp, Done, Failed, Ood, Targets, Sources, names_in, asked_lock}
+use Rattle.redodb_model.specs.Command.{Command, Lock, Unlock, Start, IfChange, IfCreate, Always, Stamp, Done, Failed, Ood, Targets, Sources, names_in, asked_lock}
 use Rattle.redodb_model.specs.Reply.{Refusal, NotLocked, Building, NotBuilding, Itself, Exists, Reply, Okay, Refused}
 use Rattle.redodb_model.specs.Step.{Tells, Replies, Answers, verdict_of, refusal_or, refusal_of_existing, stale_reply, lock_reply, holds_target, is_among, is_built_by}
 use Rattle.redodb_text.specs.Replies.{HasReplyForm, AreAllNames, names_in_reply}
@@ -52,9 +52,6 @@ module _ (names : List Text) (each : AreAllNames names) where
 
   verdict_fits : (r : Records Text) (s : ℕ) (holds : Bool) (command : Command Text)
       → AreKnown names (names_in command) → RefusalFits names (verdict_of texts r s holds command)
-  verdict_fits r s holds (File n stamp) known = tt
-  verdict_fits r s holds (Gone n) known = tt
-  verdict_fits r s holds (Lock t) known = tt
   verdict_fits r s holds (Unlock t) known =
       unlocked_fits (not holds) (is_building (target_state r t))
   verdict_fits r s holds (Start t) known =
@@ -77,9 +74,7 @@ module _ (names : List Text) (each : AreAllNames names) where
       unbuilt_fits (not (is_built_by s (target_state r t))) None tt
   verdict_fits r s holds (Failed t) known =
       unbuilt_fits (not (is_built_by s (target_state r t))) None tt
-  verdict_fits r s holds Ood known = tt
-  verdict_fits r s holds Targets known = tt
-  verdict_fits r s holds Sources known = tt
+  verdict_fits r s holds command known = tt
 
   okay_fits : (reply : Reply Text) → reply ≡ Okay → IsFitting names reply
   okay_fits reply e = subst (IsFitting names) (sym e) (tt, tt)
@@ -96,21 +91,13 @@ module _ (names : List Text) (each : AreAllNames names) where
   told_fits : (r : Records Text) (command : Command Text) (reply : Reply Text)
       → AreFilesKnown names r → AreKnown names (names_in command) → Tells texts r command reply
       → IsFitting names reply
-  told_fits r (File n stamp) reply files known e = okay_fits reply e
-  told_fits r (Gone n) reply files known e = okay_fits reply e
   told_fits r (Lock t) reply files known e = absurd e
-  told_fits r (Unlock t) reply files known e = okay_fits reply e
-  told_fits r (Start t) reply files known e = okay_fits reply e
   told_fits r (IfChange t ns) reply files known (stale, listed, e) =
       subst (IsFitting names) (sym e)
       (stale_fits stale (listed_known stale listed
       (λ n h. member_of_all (IsKnown names) ns n known.1 h.0)))
-  told_fits r (IfCreate t ns) reply files known e = okay_fits reply e
-  told_fits r (Always t) reply files known e = okay_fits reply e
   told_fits r (Stamp t content) reply files known e =
       subst (IsFitting names) (sym e) (sha1_is_digest content, tt)
-  told_fits r (Done t stamp) reply files known e = okay_fits reply e
-  told_fits r (Failed t) reply files known e = okay_fits reply e
   told_fits r Ood reply files known (ns, listed, e) =
       let are = listed_known ns listed (λ n h. files n h.0) in
       subst (IsFitting names) (sym e) (known_are_names names ns each are, are)
@@ -120,6 +107,7 @@ module _ (names : List Text) (each : AreAllNames names) where
   told_fits r Sources reply files known (ns, listed, e) =
       let are = listed_known ns listed (λ n h. files n h.1) in
       subst (IsFitting names) (sym e) (known_are_names names ns each are, are)
+  told_fits r command reply files known e = okay_fits reply e
 
   by_verdict : (verdict : Option (Refusal Text)) (r : Records Text) (command : Command Text)
       (reply : Reply Text) → AreFilesKnown names r → AreKnown names (names_in command)

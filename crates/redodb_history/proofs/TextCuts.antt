@@ -1,9 +1,9 @@
 -- Texts that are cut at a byte and at an arrow, and the header of a history.
-use Rattle.std.proofs.Common.{◌≡◌, ◌≢◌, ℕ, suc, ◌+◌, ◌-◌, ◌<◌, ◌≤◌, ◌^◌, ◌%◌, inl, inr, Bool, true, false, ◌||◌, ◌==◌, List, [], ◌∷◌, ◌++◌, length, get_or, take, drop, drop-cons, add-one, position, Option, Some, None, refl, sym, ap, subst, ◌∙◌, arith, codes, decimal, length-append, length-drop, append_assoc}
+use Rattle.std.proofs.Common.{◌≡◌, ◌≢◌, ℕ, suc, ◌+◌, ◌-◌, ◌<◌, ◌≤◌, ◌^◌, ◌%◌, inl, inr, true, false, ◌==◌, List, [], ◌∷◌, ◌++◌, length, get_or, take, drop, drop-cons, add-one, position, Option, Some, None, refl, sym, ap, subst, ◌∙◌, arith, codes, decimal, length-append, length-drop, append_assoc}
 use Rattle.std.specs.Prelude.{Contains}
 use Rattle.std.specs.List.{list_any}
 use Rattle.std.proofs.Math.Seq.{drop-append_seam}
-use Rattle.std.proofs.lemmas.Bool.{cases_lt}
+use Rattle.std.proofs.lemmas.Bool.{cases_lt, or_parts}
 use Rattle.std.proofs.lemmas.Bool.Decides.{Decides-eqb}
 use Rattle.std.proofs.lemmas.Fmt.{decimal_by_steps}
 use Rattle.std.proofs.lemmas.Grind.{get_or_default_zero}
@@ -12,29 +12,23 @@ use Rattle.std.proofs.lemmas.List.Elements.{Contains-append_right, Contains-appe
 use Rattle.std.proofs.lemmas.List.Prefix.{at_reads}
 use Rattle.std.proofs.lemmas.List.Quantifiers.{position-Some}
 use Rattle.std.proofs.lemmas.Map.Made.{Contains-tail}
+use Rattle.redodb_model.proofs.Members.{contains_first}
 use Rattle.redodb_model.specs.Names.{Text}
 use Rattle.redodb_history.specs.Histories.{header_of}
 use Rattle.redodb_text.proofs.Places.{none_passes}
 use Rattle.redodb_history.specs.HistoryFaults.{arrow, IsCutAtArrow, HasNoArrow}
 use Rattle.redodb_history.proofs.CutOnce.{first_cut, without_from}
 
-Contains-first : (x y : ℕ) (xs : List ℕ) → x ≡ y → Contains (x ∷ xs) y
-Contains-first x y xs e = (0, omega arith, e)
-
 -- a text is cut in one way at the first such byte
 pub one_cut : (a b r s : Text) (x : ℕ) → ¬ (Contains a x) → ¬ (Contains b x)
     → a ++ x ∷ r ≡ b ++ x ∷ s → (a ≡ b) × (r ≡ s)
 one_cut a b r s x p q e = first_cut x a b r s (without_from x a p) (without_from x b q) e
 
-both_false : (a b : Bool) → (a || b) ≡ false → (a ≡ false) × (b ≡ false)
-both_false true b e = absurd cc
-both_false false b e = (refl, e)
-
 -- no element is the byte, by a test that computes
 not_among : (xs : Text) (b : ℕ) → list_any (λ y. y == b) xs ≡ false → ¬ (Contains xs b)
 not_among [] b e c = absurd (omega (arith, c.1))
 not_among (x ∷ xs) b e c =
-    let both = both_false (x == b) (list_any (λ y. y == b) xs) e in
+    let both = or_parts (x == b) (list_any (λ y. y == b) xs) e in
     let other : ¬ (x ≡ b) = λ same. let yes : (x == b) ≡ true = (Decides-eqb x b).1 same in
     absurd cc in
     not_among xs b both.1 (Contains-tail x xs b other c)
@@ -75,7 +69,7 @@ pub header_parts : (count : ℕ) (rest : Text) → header_of count ++ rest ≡ h
 header_parts count rest = append_assoc (header_words count) (10 ∷ []) rest
 
 pub has_lf : (text rest : Text) (x : ℕ) → Contains (text ++ x ∷ rest) x
-has_lf text rest x = Contains-append_right text (x ∷ rest) x (Contains-first x x rest refl)
+has_lf text rest x = Contains-append_right text (x ∷ rest) x (contains_first x rest)
 
 -- what is left of a text after a place
 left_after : (text : Text) (n : ℕ) → take (length text - n) (drop n text) ≡ drop n text

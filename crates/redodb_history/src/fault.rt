@@ -1,5 +1,5 @@
 use redodb_text::LineFault;
-use std::alloc::{AllocError, AllocFailed};
+use std::alloc::AllocError;
 use thiserror::Error;
 
 /// Why a text could not be read as a history. Lines are counted from 1, without the header.
@@ -31,17 +31,6 @@ impl From<AllocError> for HistoryFault {
     ghost from_gives = { λ _ fault. fault ≡ Memory };
 
     fn from(_: AllocError) -> HistoryFault {
-        HistoryFault::Memory
-    }
-}
-
-impl<T: Drop> From<AllocFailed<T>> for HistoryFault {
-    ghost use Rattle.std.specs.Prelude.{◌≡◌};
-    ghost use Rattle.redodb_history.specs.declared.fault.HistoryFault.TheVariants.{Memory};
-
-    ghost from_gives = { λ _ fault. fault ≡ Memory };
-
-    fn from(_: AllocFailed<T>) -> HistoryFault {
         HistoryFault::Memory
     }
 }

@@ -1,7 +1,6 @@
 -- An answer over numbers is the answer over their names.
 use Rattle.std.proofs.Common.{◌≡◌, ◌↔◌, ℕ, ◌<◌, Bool, false, List, [], ◌∷◌, Option, Some, None, is_some, refl, sym, ap, ◌∙◌, subst, inl, inr, map, option_map, MatchOption}
 use Rattle.std.proofs.lemmas.Bool.{cases_lt, false≢true}
-use Rattle.std.proofs.lemmas.List.Elements.{All-from_recursion, All-contains}
 use Rattle.std.specs.List.{Contains}
 use Rattle.std.specs.declared.cmp.Ordering.{Ordering}
 use Rattle.sha1.specs.Sha1.{sha1}
@@ -15,6 +14,7 @@ use Rattle.redodb_model.specs.OutOfDate.{IsTarget, HasFile, OutOfDate, IsStale, 
 use Rattle.redodb_model.specs.Step.{verdict_of, Tells, Replies, Answers, stale_reply, holds_target, lock_reply}
 use Rattle.redodb_model.specs.Renaming.{named_command, named_refusal, named_reply, IsBelow, AllBelow, IsReplyBelow}
 use Rattle.redodb_model.specs.Support.Renaming.{Renaming, IsRenaming, named_state, named_records, named_locks, IsWithin, OrdersAlike}
+use Rattle.redodb_model.proofs.Listing.{below_in}
 use Rattle.redodb_model.proofs.Members.{contains_map, contains_from_map}
 use Rattle.redodb_model.proofs.RecordsByName.{value_at_name, number_where, row_where, file_at_name, state_at_name, change_at_names, created_at_names, target_to_name, target_from_name, out_to_name, out_from_name}
 use Rattle.redodb_model.proofs.VerdictsByName.{verdict_by_name, holds_by_name, RefusesBelow, verdict_below}
@@ -33,11 +33,6 @@ lock_by_name name (Some holder) grants = refl
 lock_below : (n : ℕ) (o : Option ℕ) (grants : ℕ) → IsReplyBelow n (lock_reply o grants)
 lock_below n None grants = tt
 lock_below n (Some holder) grants = tt
-
--- the members of a list of numbers below n are below n
-in_list : (n : ℕ) (ks : List ℕ) (k : ℕ) → AllBelow n ks → Contains ks k → k < n
-in_list n ks k below is =
-    All-contains (λ j. j < n) ks k (All-from_recursion (λ j. j < n) ks below) is
 
 module _ {M : Type 0} {to : Renaming M} (law : IsRenaming to) where
   module _ (r : Records ℕ) (within : IsWithin to.count r) where
@@ -98,12 +93,12 @@ module _ {M : Type 0} {to : Renaming M} (law : IsRenaming to) where
         × IsStale r n) (λ t. Contains (map to.name ns) t × IsStale (named_records to r) t)
     stale_carries ns below = record {
       numbered = λ t q. let (k, in_k, e) = contains_from_map to.name ns t q.0 in
-          (k, ap to.number (sym e) ∙ law.back k (in_list to.count ns k below in_k));
-      below = λ k p. in_list to.count ns k below p.0;
+          (k, ap to.number (sym e) ∙ law.back k (below_in to.count ns k below in_k));
+      below = λ k p. below_in to.count ns k below p.0;
       forth = λ k b p. (contains_map to.name ns k p.0, stale_forth k b p.1);
       back = λ k b q.
           let (j, in_j, e) = contains_from_map to.name ns (to.name k) q.0 in (
-            subst (Contains ns) (one_number law j k (in_list to.count ns j below in_j) b e) in_j,
+            subst (Contains ns) (one_number law j k (below_in to.count ns j below in_j) b e) in_j,
             stale_back k b q.1,
           );
     }

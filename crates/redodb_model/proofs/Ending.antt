@@ -6,7 +6,6 @@ use Rattle.std.specs.Ordering.{ordering_reverse}
 use Rattle.std.specs.declared.cmp.Ordering.{Ordering}
 use Rattle.std.specs.declared.cmp.Ordering.TheVariants.{Less, Greater}
 use Rattle.std.proofs.lemmas.Bool.{false≢true, eqb-true, eq-eqb, false_from_ne_true}
-use Rattle.std.proofs.lemmas.List.Elements.{All-contains, filter_passes}
 use Rattle.std.proofs.Math.Path.{fun_ext}
 use Rattle.redodb_model.specs.Names.{Naming}
 use Rattle.redodb_model.specs.Support.Names.{IsNaming}
@@ -19,7 +18,7 @@ use Rattle.redodb_model.specs.History.{Line, Legal, LegalFrom, left_by, part_of}
 use Rattle.redodb_model.specs.Closing.{lesser, lesser_of, least, holds, builds, held_in, holds_then, builds_then, letting_go, closing_of, ClosesAfter}
 use Rattle.redodb_model.specs.Support.Ending.{AreHeld, okay_line, cell_without, holder_without, closing_lines_of, state_without}
 use Rattle.redodb_model.proofs.Held.{BuildersHold, from_put, to_put, builders_hold_after, builders_hold, builders_hold_at_first}
-use Rattle.redodb_model.proofs.Letting.{least_in, held_is_in, letting_answers}
+use Rattle.redodb_model.proofs.Letting.{least_in, held_is_in, is_held, letting_answers}
 use Rattle.redodb_model.proofs.Lists.{first_before, rest_ascending}
 use Rattle.redodb_model.proofs.Members.{contains_first, contains_later, contains_cases, contains_none}
 use Rattle.redodb_model.proofs.OneMore.{left_by-append, legal_both}
@@ -143,25 +142,18 @@ module _ {N : Type 0} {naming : Naming N} (law : IsNaming naming)
         ∙ ap Some (lesser_later t n (first n (contains_first n names)))
   ]
 
-  is_held : (own : List (Line N)) (u : N) → Contains (held_in naming own) u
-      → holds naming own u ≡ true
-  is_held own u there =
-      All-contains (λ n. holds naming own n ≡ true) (held_in naming own) u
-      (filter_passes (holds naming own) (filter_map (λ (line : Line N). asked_lock line.command)
-      own)) there
-
   closing_first : (own : List (Line N)) (t : N) → holds naming own t ≡ true
       → ((u : N) → holds naming own u ≡ true → NotAfter t u)
       → closing_of naming own ≡ Some (letting_go naming own t)
   closing_first own t h first =
       ap (option_map (letting_go naming own)) (least_first t (held_in naming own)
-      (held_is_in law own t h) (λ u there. first u (is_held own u there)))
+      (held_is_in law own t h) (λ u there. first u (is_held law own u there)))
 
   ended_by : (own : List (Line N)) (o : Option N) → least naming (held_in naming own) ≡ o
       → ((u : N) → holds naming own u ≡ true → ⊥) → option_map (letting_go naming own) o ≡ None
   ended_by own None is none = refl
   ended_by own (Some t) is none =
-      absurd (none t (is_held own t (least_in naming (held_in naming own) t is)))
+      absurd (none t (is_held law own t (least_in naming (held_in naming own) t is)))
 
   module _ (s : ℕ) where
     -- what the session's own lines say of the state

@@ -12,6 +12,7 @@ use Rattle.redodb_model.specs.Reply.{Okay}
 use Rattle.redodb_model.specs.Placed.{PlacedLine, line_of}
 use Rattle.redodb_model.specs.Closing.{holds, builds}
 use Rattle.redodb_model.specs.Journals.{numbered, IsJournal}
+use Rattle.redodb_model.proofs.Members.{all_joined}
 use Rattle.redodb_model.proofs.Nexts.{next_line_from, past_of, past_of_more, closing_number_is}
 use Rattle.redodb_model.proofs.Parts.{IsLined, IsClosed, Parts, parts_after, journal_fits, lined_below, closed_past}
 use Rattle.redodb_model.proofs.Room.{AllOkay, asked_start, locked_by, started_by, closed_few}
@@ -167,13 +168,6 @@ all_less n m [] le all = tt
 all_less n m (line ∷ lines) le all =
     let here = all.0 in (omega arith, all_less n m lines le all.1)
 
-all_both : {N : Type 0} (n : ℕ) (lines more : List (PlacedLine N))
-    → AllByRecursion (λ line. line.number < n) lines
-    → AllByRecursion (λ line. line.number < n) more
-    → AllByRecursion (λ line. line.number < n) (lines ++ more)
-all_both n [] more all rest = rest
-all_both n (line ∷ lines) more all rest = (all.0, all_both n lines more all.1 rest)
-
 module _ {N : Type 0} (s : ℕ) (script : List (Item N)) where
   past_fits : (before lines : List (PlacedLine N)) → IsLined s script before lines
       → past_of before ≤ length script → past_of (before ++ lines) ≤ length script
@@ -207,7 +201,7 @@ module _ {N : Type 0} {naming : Naming N} (law : IsNaming naming) (s : ℕ)
       let few = (few_closing law s script lines parts okay).1 in
       subst (AllByRecursion (λ (line : PlacedLine N). line.number < room_of script))
       (sym parts.both)
-      (all_both (room_of script) parts.own parts.closing
+      (all_joined (λ (line : PlacedLine N). line.number < room_of script) parts.own parts.closing
       (all_less (length script) (room_of script) parts.own (omega arith)
       (lined_below s script [] parts.own parts.lined))
       (closing_numbers s script naming parts.own parts.closing (length script) (room_of script)

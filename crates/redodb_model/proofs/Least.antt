@@ -4,7 +4,6 @@ use Rattle.std.specs.List.{Contains, filter_map}
 use Rattle.std.specs.Cmp.{IsTotalOrder, tied_itself, upto}
 use Rattle.std.specs.Ordering.{is_gt, ordering_reverse}
 use Rattle.std.proofs.lemmas.Bool.{false≢true}
-use Rattle.std.proofs.lemmas.List.Elements.{All-contains, filter_passes}
 use Rattle.std.specs.declared.cmp.Ordering.{Ordering}
 use Rattle.std.specs.declared.cmp.Ordering.TheVariants.{Less, Equal, Greater}
 use Rattle.redodb_model.specs.Names.{Naming}
@@ -13,7 +12,7 @@ use Rattle.redodb_model.specs.Command.{Unlock, Failed, asked_lock}
 use Rattle.redodb_model.specs.History.{Line}
 use Rattle.redodb_model.specs.Closing.{lesser, lesser_of, least, holds, builds, held_in, letting_go, closing_of}
 use Rattle.redodb_model.specs.Support.Ending.{IsLeastHeld}
-use Rattle.redodb_model.proofs.Letting.{closing_none, held_is_in, least_in, least_none}
+use Rattle.redodb_model.proofs.Letting.{closing_none, held_is_in, is_held, least_in, least_none}
 use Rattle.redodb_model.proofs.Members.{contains_cases, contains_none}
 
 not_greater : (o : Ordering) → o ≢ Less → is_gt (ordering_reverse o) ≡ false
@@ -72,13 +71,6 @@ module _ {N : Type 0} {naming : Naming N} (law : IsNaming naming)
             (λ m found. least_below names m u found later)
       ])
 
-  held_of : (own : List (Line N)) (t : N) → Contains (held_in naming own) t
-      → holds naming own t ≡ true
-  held_of own t there =
-      All-contains (λ n. holds naming own n ≡ true) (held_in naming own) t
-      (filter_passes (holds naming own)
-      (filter_map (λ (line : Line N). asked_lock line.command) own)) there
-
   let_go_of : (builds_one builds_other : Bool) (one other : N)
       → cond builds_one (Failed one) (Unlock one) ≡ cond builds_other (Failed other) (Unlock other)
       → one ≡ other
@@ -98,7 +90,7 @@ module _ {N : Type 0} {naming : Naming N} (law : IsNaming naming)
       → closing_of naming own ≡ Some (letting_go naming own t) → IsLeastHeld naming own t
   closes_least own t e =
       let is = found own t (least naming (held_in naming own)) e in (
-        held_of own t (least_in naming (held_in naming own) t is),
+        is_held law own t (least_in naming (held_in naming own) t is),
         λ u held. not_less (naming.order t u) (naming.order u t) (total.antisymm t u)
             (least_below (held_in naming own) t u is (held_is_in law own u held)),
       )
@@ -111,7 +103,7 @@ module _ {N : Type 0} {naming : Naming N} (law : IsNaming naming)
   least_is own t (Some u) e held =
       ap Some (tied u t (neither (naming.order u t)
       (least_below (held_in naming own) u t e (held_is_in law own t held.0))
-      (held.1 u (held_of own u (least_in naming (held_in naming own) u e)))))
+      (held.1 u (is_held law own u (least_in naming (held_in naming own) u e)))))
 
   pub closing_least : (own : List (Line N)) (t : N)
       → (closing_of naming own ≡ Some (letting_go naming own t)) ↔ IsLeastHeld naming own t
@@ -126,7 +118,7 @@ module _ {N : Type 0} {naming : Naming N} (law : IsNaming naming)
   none_held own None e free = refl
   none_held own (Some t) e free =
       absurd (false≢true (sym (free t)
-      ∙ held_of own t (least_in naming (held_in naming own) t e)))
+      ∙ is_held law own t (least_in naming (held_in naming own) t e)))
 
   pub closing_nothing : (own : List (Line N))
       → (closing_of naming own ≡ None) ↔ ((t : N) → holds naming own t ≡ false)

@@ -133,6 +133,12 @@ module _ {N : Type 0} {naming : Naming N} (law : IsNaming naming) where
       (contains_filter (holds naming own)
       (filter_map (λ (line : Line N). asked_lock line.command) own) t).1 (held_is_asked own t e, e)
 
+  pub is_held : (own : List (Line N)) (t : N) → Contains (held_in naming own) t
+      → holds naming own t ≡ true
+  is_held own t there =
+      ((contains_filter (holds naming own)
+      (filter_map (λ (line : Line N). asked_lock line.command) own) t).0 there).1
+
   -- a session without a closing command holds nothing
   pub closing_none : (own : List (Line N)) → closing_of naming own ≡ None → (t : N)
       → holds naming own t ≡ false

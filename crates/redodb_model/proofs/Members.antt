@@ -1,9 +1,9 @@
 -- The members of a list.
-use Rattle.std.proofs.Common.{◌≡◌, ◌⊎◌, ◌↔◌, ◌∙◌, ◌<◌, Bool, true, false, cond, IsTrue, List, [], ◌∷◌, length, get_or, refl, sym, subst, inl, inr, arith, zero, suc, map}
+use Rattle.std.proofs.Common.{◌≡◌, ◌⊎◌, ◌↔◌, ◌∙◌, ◌<◌, Bool, true, false, cond, IsTrue, List, [], ◌∷◌, ◌++◌, length, get_or, refl, sym, subst, inl, inr, arith, zero, suc, map}
 use Rattle.std.proofs.lemmas.Bool.{false≢true}
 use Rattle.std.proofs.lemmas.List.{get_or-map, length-map}
 use Rattle.std.proofs.lemmas.List.Elements.{Contains-get_or}
-use Rattle.std.specs.List.{AllPairs, Contains, filter}
+use Rattle.std.specs.List.{AllByRecursion, AllPairs, Contains, filter}
 
 pub contains_first : {X : Type 0} (x : X) (xs : List X) → Contains (x ∷ xs) x
 contains_first x xs = (0, omega arith, refl)
@@ -68,6 +68,12 @@ contains_filter p (x ∷ xs) t = at (contains_filter p xs t) (p x) refl
         | inr later ↦ rest.1 (later, h.1)
       ],
     )
+
+-- what is true of each element of two lists
+pub all_joined : {X : Type 0} (P : X → Type 0) (xs ys : List X) → AllByRecursion P xs
+    → AllByRecursion P ys → AllByRecursion P (xs ++ ys)
+all_joined P [] ys one other = other
+all_joined P (x ∷ xs) ys one other = (one.0, all_joined P xs ys one.1 other)
 
 -- a relation of members that their images keep
 pub pairs_map : {X Y : Type 0} (R : X → X → Type 0) (S : Y → Y → Type 0) (f : X → Y) (xs : List X)

@@ -5,17 +5,13 @@ use Rattle.std.proofs.lemmas.List.{map-append}
 use Rattle.std.proofs.lemmas.List.Elements.{filter-append}
 use Rattle.std.proofs.lemmas.Grind.{flat_map-append}
 use Rattle.redodb_names.specs.Names.{with_name, has}
+use Rattle.redodb_model.proofs.Members.{all_joined}
 use Rattle.redodb_model.specs.Names.{Text}
 use Rattle.redodb_model.specs.Command.{Command, Item, commands_in, names_in}
 use Rattle.redodb_text.specs.Grammar.{IsShort, is_skipped, with_names, AreItemLines, AreScriptLines}
 
 abbrev is_said : Text → Bool
 is_said line = not (is_skipped line)
-
-all_joined : {X : Type 0} (P : X → Type 0) (xs ys : List X) → AllByRecursion P xs
-    → AllByRecursion P ys → AllByRecursion P (xs ++ ys)
-all_joined P [] ys one other = other
-all_joined P (x ∷ xs) ys one other = (one.0, all_joined P xs ys one.1 other)
 
 all_split : {X : Type 0} (P : X → Type 0) (xs ys : List X) → AllByRecursion P (xs ++ ys)
     → AllByRecursion P xs × AllByRecursion P ys

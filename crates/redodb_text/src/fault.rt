@@ -64,17 +64,6 @@ impl From<AllocError> for ReadFault {
     }
 }
 
-impl<T: Drop> From<AllocFailed<T>> for ReadFault {
-    ghost use Rattle.std.specs.Prelude.{◌≡◌};
-    ghost use Rattle.redodb_text.specs.declared.fault.ReadFault.TheVariants.{Memory};
-
-    ghost from_gives = { λ _ e. e ≡ Memory };
-
-    fn from(_e: AllocFailed<T>) -> ReadFault {
-        ReadFault::Memory
-    }
-}
-
 /// Why a run or a replay is refused, or the program fails. Files are counted from 0, lines from 1. A
 /// replay's history is file 0, and its lines are counted without the header.
 #[derive(Clone, Copy, Debug, PartialEq, Eq, Error)]

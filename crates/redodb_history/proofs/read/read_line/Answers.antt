@@ -63,9 +63,8 @@ returns-clause-read c =
       session = c.in-Some.ensures.0;
       command = c.in-Some-cut_at_arrow.command.now;
       reply = c.in-Some-cut_at_arrow.reply.now;
-      parts = line_parts c.args.text.now c.cut_at_space.result.0.now c.cut_at_space.result.1.now
-          c.in-Some-cut_at_arrow.command.now c.in-Some-cut_at_arrow.reply.now c.in-Some.session
-          c.cut_at_space.ensures c.in-Some.ensures c.in-Some-cut_at_arrow.ensures;
+      parts = line_parts c.in-Some.session c.cut_at_space.ensures c.in-Some.ensures
+          c.in-Some-cut_at_arrow.ensures;
       said = subst (λ (command : commands.Command Text).
           IsCommandLine c.in-Some-cut_at_arrow.command.now command) (sym said)
           c.in-Ok.ensures.read.0;
