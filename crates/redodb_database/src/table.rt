@@ -59,13 +59,13 @@ macro_rules! answer {
         $redo.stale_reply($alloc, $names.as_slice())
     };
     (ood [$redo:tt $alloc:tt]) => {
-        $redo.ood_reply($alloc)
+        Ok(Reply::Ood($redo.ood($alloc)?))
     };
     (targets [$redo:tt $alloc:tt]) => {
-        $redo.targets_reply($alloc)
+        Ok(Reply::Targets($redo.targets($alloc)?))
     };
     (sources [$redo:tt $alloc:tt]) => {
-        $redo.sources_reply($alloc)
+        Ok(Reply::Sources($redo.sources($alloc)?))
     };
 }
 

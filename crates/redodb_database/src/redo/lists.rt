@@ -46,36 +46,7 @@ impl Redo {
     }
 
     /// The targets that have a file and are out of date.
-    pub(super) fn ood_reply(&self, alloc: Global) -> Result<Reply, AllocError>
-        ensures tells { IfOk result (λ reply. Tells by_number (tables_records self.now) commands.Ood
-            (reply_of reply)) }
-        ensures below { IfOk result
-            (λ reply. IsReplyBelow (tables_count self.now) (reply_of reply)) }
-    {
-        Ok(Reply::Ood(self.ood(alloc)?))
-    }
-
-    /// The idle names that have a file and on which a target has a row.
-    pub(super) fn sources_reply(&self, alloc: Global) -> Result<Reply, AllocError>
-        ensures tells { IfOk result (λ reply. Tells by_number (tables_records self.now)
-            commands.Sources (reply_of reply)) }
-        ensures below { IfOk result
-            (λ reply. IsReplyBelow (tables_count self.now) (reply_of reply)) }
-    {
-        Ok(Reply::Sources(self.sources(alloc)?))
-    }
-
-    /// The targets that have a file.
-    pub(super) fn targets_reply(&self, alloc: Global) -> Result<Reply, AllocError>
-        ensures tells { IfOk result (λ reply. Tells by_number (tables_records self.now)
-            commands.Targets (reply_of reply)) }
-        ensures below { IfOk result
-            (λ reply. IsReplyBelow (tables_count self.now) (reply_of reply)) }
-    {
-        Ok(Reply::Targets(self.targets(alloc)?))
-    }
-
-    fn ood(&self, alloc: Global) -> Result<Vec<u32>, AllocError>
+    pub(super) fn ood(&self, alloc: Global) -> Result<Vec<u32>, AllocError>
         ensures listed { IfOk result (λ names. IsListed by_number
             (λ t. HasFile (tables_records self.now) t × OutOfDate (tables_records self.now) t)
             names.items) }
@@ -99,7 +70,8 @@ impl Redo {
         self.memo.list(alloc)
     }
 
-    fn sources(&self, alloc: Global) -> Result<Vec<u32>, AllocError>
+    /// The idle names that have a file and on which a target has a row.
+    pub(super) fn sources(&self, alloc: Global) -> Result<Vec<u32>, AllocError>
         ensures listed { IfOk result
             (λ names. IsListed by_number (IsSource (tables_records self.now)) names.items) }
         ensures below { IfOk result (λ names. AllBelow (tables_count self.now) names.items) }
@@ -112,7 +84,8 @@ impl Redo {
         Ok(names)
     }
 
-    fn targets(&self, alloc: Global) -> Result<Vec<u32>, AllocError>
+    /// The targets that have a file.
+    pub(super) fn targets(&self, alloc: Global) -> Result<Vec<u32>, AllocError>
         ensures listed { IfOk result (λ names. IsListed by_number
             (λ t. HasFile (tables_records self.now) t × IsTarget (tables_records self.now) t)
             names.items) }
