@@ -3,8 +3,7 @@ use Rattle.std.proofs.Common.{◌≡◌, ℕ, ◌+◌, Bool, true, false, not, L
 use Rattle.std.specs.Prelude.{MatchOption}
 use Rattle.std.proofs.lemmas.Bool.{false≢true}
 use Rattle.redodb_model.specs.Names.{Naming}
-use Rattle.redodb_model.specs.State.{State, Records, Locks, TargetState, Idle, Building, Built, target_state, is_building, empty}
-use Rattle.redodb_model.specs.State as states
+use Rattle.redodb_model.specs.State.{State, Records, Locks, TargetState, Building, target_state, is_building}
 use Rattle.redodb_model.specs.Command.{Command, Lock, Unlock, target_of}
 use Rattle.redodb_model.specs.Reply.{Refusal, Reply, Okay, Refused, NotLocked}
 use Rattle.redodb_model.specs.Reply as replies
@@ -110,11 +109,9 @@ module _ {N : Type 0} (naming : Naming N) where
   built_by_none : (a : TargetState) (s : ℕ) (holder : Option ℕ)
       → ((b : ℕ) → a ≡ Building b → holder ≡ Some b)
       → is_held_by s holder ≡ true → is_built_by s a ≡ false → is_building a ≡ false
-  built_by_none Idle s holder own held e = refl
   built_by_none (Building b) s holder own held e =
       absurd (false≢true (sym e ∙ subst (λ z. is_held_by s z ≡ true) (own b refl) held))
-  built_by_none Built s holder own held e = refl
-  built_by_none states.Failed s holder own held e = refl
+  built_by_none state s holder own held e = refl
 
   accepted_unlock : (state : State N) (s : ℕ) (t : N) → is_held_by s (state.locks.holder t) ≡ true
       → is_building (target_state state.records t) ≡ false

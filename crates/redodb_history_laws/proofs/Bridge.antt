@@ -7,7 +7,7 @@ use Rattle.redodb_model.specs.State.{State, empty}
 use Rattle.redodb_model.specs.Step.{after, is_held_by}
 use Rattle.redodb_model.specs.History.{LegalFrom}
 use Rattle.redodb_model.proofs.Held.{BuildersHold, builders_hold_after}
-use Rattle.redodb_model.specs.Placed.{Place, Row, Granted, Busy, Released, PlacedLine, line_of, part_of, is_grant, is_release, grants_in, releases_in, Follows, IsPlacedAfter, IsPlaced}
+use Rattle.redodb_model.specs.Placed.{Place, Granted, Released, PlacedLine, line_of, part_of, is_grant, is_release, grants_in, releases_in, Follows, IsPlacedAfter, IsPlaced}
 use Rattle.redodb_history_laws.specs.ByRows.{Stands, StandAfter, AllStand}
 use Rattle.redodb_history_laws.proofs.Counts.{one_if, no_step, own_push, grants_push, releases_push}
 use Rattle.redodb_history_laws.proofs.Tied.{not_held, Tied, tied_at_first, flag, locks_by, state_by}
@@ -22,7 +22,6 @@ module _ {N : Type 0} {naming : Naming N} (law : IsNaming naming) where
       ≡ grants_in naming before t + one_if (is_grant naming t place)
       → (locks_by naming place state.locks line.session).grants t
       ≡ grants_in naming (before ++ line ∷ []) t
-  grants_at state before line (Row r) t tied push = let a = tied.grants t in omega arith
   grants_at state before line (Granted u g) t tied push = elim (cases_Bool (naming.same u t)) [
     | inl e ↦ let a = tied.grants u in
         let b = ap (grants_in naming before) ((law.decides u t).0 e) in
@@ -38,8 +37,7 @@ module _ {N : Type 0} {naming : Naming N} (law : IsNaming naming) where
         ap (λ b. cond b (state.locks.grants u + 1) (state.locks.grants t)) e in
         omega arith
   ]
-  grants_at state before line (Busy u g) t tied push = let a = tied.grants t in omega arith
-  grants_at state before line (Released u g) t tied push = let a = tied.grants t in omega arith
+  grants_at state before line place t tied push = let a = tied.grants t in omega arith
 
   held_at : (state : State N) (before : List (PlacedLine N)) (line : PlacedLine N) (place : Place N)
       (t : N)
@@ -51,7 +49,6 @@ module _ {N : Type 0} {naming : Naming N} (law : IsNaming naming) where
       → grants_in naming (before ++ line ∷ []) t
       ≡ releases_in naming (before ++ line ∷ []) t + one_if
       (is_some ((locks_by naming place state.locks line.session).holder t))
-  held_at state before line (Row r) t tied h gs rs = let a = tied.held t in omega arith
   held_at state before line (Granted u g) t tied h gs rs = elim (cases_Bool (naming.same u t)) [
     | inl e ↦ let same = (law.decides u t).0 e in
         let a = h.0 in
@@ -69,7 +66,6 @@ module _ {N : Type 0} {naming : Naming N} (law : IsNaming naming) where
         ap (λ b. one_if (is_some (cond b (Some line.session) (state.locks.holder t)))) e in
         omega arith
   ]
-  held_at state before line (Busy u g) t tied h gs rs = let a = tied.held t in omega arith
   held_at state before line (Released u g) t tied h gs rs = elim (cases_Bool (naming.same u t)) [
     | inl e ↦ let same = (law.decides u t).0 e in
         let a = h.0 in
@@ -87,6 +83,7 @@ module _ {N : Type 0} {naming : Naming N} (law : IsNaming naming) where
         ap (λ b. one_if (is_some (cond b None (state.locks.holder t)))) e in
         omega arith
   ]
+  held_at state before line place t tied h gs rs = let a = tied.held t in omega arith
 
   holder_is : (s v : ℕ) (holder : Option ℕ) → is_held_by s holder ≡ true
       → one_if (is_held_by v holder) ≡ one_if (eqb s v)
@@ -108,9 +105,6 @@ module _ {N : Type 0} {naming : Naming N} (law : IsNaming naming) where
       → grants_in naming (part_of v (before ++ line ∷ [])) t
       ≡ releases_in naming (part_of v (before ++ line ∷ [])) t + one_if
       (is_held_by v ((locks_by naming place state.locks line.session).holder t))
-  own_at state before line (Row r) v t tied h stands gs rs = let a = tied.own v t in
-      let b = no_step (eqb line.session v) in
-      omega arith
   own_at state before line (Granted u g) v t tied h stands gs rs =
       let z = no_step (eqb line.session v) in
       elim (cases_Bool (naming.same u t)) [
@@ -136,9 +130,6 @@ module _ {N : Type 0} {naming : Naming N} (law : IsNaming naming) where
             ap (λ b. one_if (is_held_by v (cond b (Some line.session) (state.locks.holder t)))) e in
             omega arith
       ]
-  own_at state before line (Busy u g) v t tied h stands gs rs = let a = tied.own v t in
-      let b = no_step (eqb line.session v) in
-      omega arith
   own_at state before line (Released u g) v t tied h stands gs rs =
       let z = no_step (eqb line.session v) in
       elim (cases_Bool (naming.same u t)) [
@@ -161,6 +152,9 @@ module _ {N : Type 0} {naming : Naming N} (law : IsNaming naming) where
             ap (λ b. one_if (is_held_by v (cond b None (state.locks.holder t)))) e in
             omega arith
       ]
+  own_at state before line place v t tied h stands gs rs = let a = tied.own v t in
+      let b = no_step (eqb line.session v) in
+      omega arith
 
   -- the ties go on over a line
   pub tied_after : (state : State N) (before : List (PlacedLine N)) (line : PlacedLine N)

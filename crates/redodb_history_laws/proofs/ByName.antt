@@ -8,8 +8,7 @@ use Rattle.std.proofs.lemmas.List.{map_push}
 use Rattle.redodb_model.specs.Names.{Naming, numbers}
 use Rattle.redodb_model.specs.Support.Names.{IsNaming}
 use Rattle.redodb_model.specs.Command.{Command, Lock, Unlock}
-use Rattle.redodb_model.specs.Reply.{Reply, Okay, Stale, Stamped, Refused}
-use Rattle.redodb_model.specs.Reply as replies
+use Rattle.redodb_model.specs.Reply.{Reply, Okay}
 use Rattle.redodb_model.specs.Renaming.{named_command, named_reply}
 use Rattle.redodb_model.specs.Support.Renaming.{Renaming, IsRenaming}
 use Rattle.redodb_model.proofs.RepliesByName.{one_number}
@@ -51,26 +50,12 @@ module _ {A B : Type 0} (name : A → B) where
   lock_claim : (t : A) (reply : Reply A)
       → is_claim (Lock (name t)) (named_reply name reply) ≡ is_claim (Lock t) reply
   lock_claim t Okay = refl
-  lock_claim t (replies.Granted g) = refl
-  lock_claim t (replies.Busy g) = refl
-  lock_claim t (Stale ns) = refl
-  lock_claim t (Stamped d) = refl
-  lock_claim t (replies.Ood ns) = refl
-  lock_claim t (replies.Targets ns) = refl
-  lock_claim t (replies.Sources ns) = refl
-  lock_claim t (Refused refusal) = refl
+  lock_claim t reply = refl
 
   unlock_claim : (t : A) (reply : Reply A)
       → is_claim (Unlock (name t)) (named_reply name reply) ≡ is_claim (Unlock t) reply
   unlock_claim t Okay = refl
-  unlock_claim t (replies.Granted g) = refl
-  unlock_claim t (replies.Busy g) = refl
-  unlock_claim t (Stale ns) = refl
-  unlock_claim t (Stamped d) = refl
-  unlock_claim t (replies.Ood ns) = refl
-  unlock_claim t (replies.Targets ns) = refl
-  unlock_claim t (replies.Sources ns) = refl
-  unlock_claim t (Refused refusal) = refl
+  unlock_claim t reply = refl
 
   claim_kept : (command : Command A) (reply : Reply A)
       → is_claim (named_command name command) (named_reply name reply) ≡ is_claim command reply
@@ -82,10 +67,7 @@ module _ {A B : Type 0} (name : A → B) where
       → Fits place command reply
       → Fits (named_place name place) (named_command name command) (named_reply name reply)
   fits_kept (Row r) command reply h = claim_kept command reply ∙ h
-  fits_kept (Granted t g) command reply h = (ap (named_command name) h.0, ap (named_reply name) h.1)
-  fits_kept (Busy t g) command reply h = (ap (named_command name) h.0, ap (named_reply name) h.1)
-  fits_kept (Released t g) command reply h =
-      (ap (named_command name) h.0, ap (named_reply name) h.1)
+  fits_kept place command reply h = (ap (named_command name) h.0, ap (named_reply name) h.1)
 
 module _ {M : Type 0} {to : Renaming M} (law : IsRenaming to) {naming : Naming M}
     (good : IsNaming naming) (order : ℕ → ℕ → Ordering) where
@@ -106,24 +88,18 @@ module _ {M : Type 0} {to : Renaming M} (law : IsRenaming to) {naming : Naming M
 
   grant_by_name : (t : ℕ) → t < to.count → (place : Place ℕ) → IsPlaceBelow to.count place
       → is_grant naming (to.name t) (named_place to.name place) ≡ is_grant (numbers order) t place
-  grant_by_name t a (Row r) b = refl
   grant_by_name t a (Granted u g) b = same_by_name u t b a
-  grant_by_name t a (Busy u g) b = refl
-  grant_by_name t a (Released u g) b = refl
+  grant_by_name t a place b = refl
 
   release_by_name : (t : ℕ) → t < to.count → (place : Place ℕ) → IsPlaceBelow to.count place
       → is_release naming (to.name t) (named_place to.name place)
       ≡ is_release (numbers order) t place
-  release_by_name t a (Row r) b = refl
-  release_by_name t a (Granted u g) b = refl
-  release_by_name t a (Busy u g) b = refl
   release_by_name t a (Released u g) b = same_by_name u t b a
+  release_by_name t a place b = refl
 
   row_by_name : (place : Place ℕ) → is_row (named_place to.name place) ≡ is_row place
   row_by_name (Row r) = refl
-  row_by_name (Granted u g) = refl
-  row_by_name (Busy u g) = refl
-  row_by_name (Released u g) = refl
+  row_by_name place = refl
 
   grants_by_name : (lines : List (PlacedLine ℕ)) → AllByRecursion (IsPlacedBelow to.count) lines
       → (t : ℕ) → t < to.count

@@ -13,7 +13,7 @@ use Rattle.redodb_model.specs.Reply.{Reply, Okay}
 use Rattle.redodb_model.specs.Step.{Answers}
 use Rattle.redodb_model.specs.History as histories
 use Rattle.redodb_model.specs.History.{left_by, LegalFrom, Legal}
-use Rattle.redodb_model.specs.Placed.{Place, Row, Granted, Busy, Released, PlacedLine, line_of, part_of, is_claim, is_row, Fits, IsPlacedAfter}
+use Rattle.redodb_model.specs.Placed.{Place, Row, PlacedLine, line_of, part_of, is_claim, is_row, Fits, IsPlacedAfter}
 use Rattle.redodb_model.specs.Closing.{builds, closing_of}
 use Rattle.redodb_model.specs.Journals.{numbered, next_of, IsJournalAfter}
 use Rattle.redodb_model.specs.Renaming.{IsBelow, IsLineBelow}
@@ -154,9 +154,7 @@ module _ {naming : Naming ℕ} (law : IsNaming naming) (plan : ℕ → List (Ite
   by_place : (place : Place ℕ) (command : Command ℕ) (reply : Reply ℕ) → Fits place command reply
       → is_row place ≡ true → is_claim command reply ≡ false
   by_place (Row r) command reply fits row = fits
-  by_place (Granted t g) command reply fits row = absurd (false≢true row)
-  by_place (Busy t g) command reply fits row = absurd (false≢true row)
-  by_place (Released t g) command reply fits row = absurd (false≢true row)
+  by_place place command reply fits row = absurd (false≢true row)
 
   pub all_tell : (before lines : List (PlacedLine ℕ)) → Legal naming (map line_of before)
       → LegalFrom naming (left_by naming empty (map line_of before)) (map line_of lines)

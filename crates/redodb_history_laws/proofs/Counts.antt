@@ -80,20 +80,14 @@ module _ {N : Type 0} {naming : Naming N} (law : IsNaming naming) where
       ≡ after (tickets law) (counters naming before)
       (record line { place = place }) k
   counters_at before line (Row r) None rows grants releases = omega arith
-  counters_at before line (Row r) (Some t) rows grants releases = let a = grants t in
-      let b = releases t in
-      omega arith
   counters_at before line (Granted u g) None rows grants releases = omega arith
-  counters_at before line (Granted u g) (Some t) rows grants releases = let a = grants t in
-      let b = releases t in
-      omega arith
   counters_at before line (Busy u g) None rows grants releases = omega arith
   counters_at before line (Busy u g) (Some t) rows grants releases = let a = grants t in
       let b = releases t in
       let d = no_step (same_counter naming (Some t) (Some u)) in
       omega arith
   counters_at before line (Released u g) None rows grants releases = omega arith
-  counters_at before line (Released u g) (Some t) rows grants releases = let a = grants t in
+  counters_at before line place (Some t) rows grants releases = let a = grants t in
       let b = releases t in
       omega arith
 
@@ -109,9 +103,7 @@ module _ {N : Type 0} {naming : Naming N} (law : IsNaming naming) where
       → Follows naming before place
       → Comes (tickets law) (counters naming before) (record line { place = place })
   follows_comes before line (Row r) h = h
-  follows_comes before line (Granted t g) h = let a = h.0 in let b = h.1 in omega arith
-  follows_comes before line (Busy t g) h = let a = h.0 in let b = h.1 in omega arith
-  follows_comes before line (Released t g) h = let a = h.0 in let b = h.1 in omega arith
+  follows_comes before line place h = let a = h.0 in let b = h.1 in omega arith
 
   pub comes_follows : (before : List (PlacedLine N)) (line : PlacedLine N) (place : Place N)
       → Paired naming before
@@ -135,8 +127,6 @@ module _ {N : Type 0} {naming : Naming N} (law : IsNaming naming) where
       ⊎
       (grants_in naming (before ++ line ∷ []) t
       ≡ releases_in naming (before ++ line ∷ []) t + 1)
-  pair_at before line (Row r) t pair h grants releases =
-      elim (pair.pairs t) [ inl e ↦ inl (omega arith) | inr e ↦ inr (omega arith) ]
   pair_at before line (Granted u g) t pair h grants releases = elim (cases_Bool (naming.same u t)) [
     | inl e ↦ let same = (law.decides u t).0 e in
         let a = h.0 in
@@ -148,8 +138,6 @@ module _ {N : Type 0} {naming : Naming N} (law : IsNaming naming) where
     | inr e ↦ let f = ap one_if e in
         elim (pair.pairs t) [ inl k ↦ inl (omega arith) | inr k ↦ inr (omega arith) ]
   ]
-  pair_at before line (Busy u g) t pair h grants releases =
-      elim (pair.pairs t) [ inl e ↦ inl (omega arith) | inr e ↦ inr (omega arith) ]
   pair_at before line (Released u g) t pair h grants releases =
       elim (cases_Bool (naming.same u t)) [
         | inl e ↦ let same = (law.decides u t).0 e in
@@ -162,6 +150,8 @@ module _ {N : Type 0} {naming : Naming N} (law : IsNaming naming) where
         | inr e ↦ let f = ap one_if e in
             elim (pair.pairs t) [ inl k ↦ inl (omega arith) | inr k ↦ inr (omega arith) ]
       ]
+  pair_at before line place t pair h grants releases =
+      elim (pair.pairs t) [ inl e ↦ inl (omega arith) | inr e ↦ inr (omega arith) ]
 
   pub paired_after : (before : List (PlacedLine N)) (line : PlacedLine N) → Paired naming before
       → Follows naming before line.place → Paired naming (before ++ line ∷ [])

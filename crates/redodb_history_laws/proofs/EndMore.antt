@@ -28,9 +28,7 @@ zero_if b = cond b 0 1
 word_after : {N : Type 0} (place : Place N) (word : ℕ) (words more : List ℕ)
     → word_before place word (words ++ more) ≡ word_before place word words ++ more
 word_after (Row r) word words more = refl
-word_after (Granted t g) word words more = refl
-word_after (Busy t g) word words more = refl
-word_after (Released t g) word words more = refl
+word_after place word words more = refl
 
 abbrev pub line_at : {N : Type 0} → ℕ → ℕ → Command N → Reply N → Place N → PlacedLine N
 line_at s number command reply place = record {

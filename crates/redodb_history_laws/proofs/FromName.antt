@@ -5,7 +5,7 @@ use Rattle.std.proofs.lemmas.List.{map_push}
 use Rattle.std.specs.declared.cmp.Ordering.{Ordering}
 use Rattle.redodb_model.specs.Names.{Naming, numbers}
 use Rattle.redodb_model.specs.Support.Names.{IsNaming}
-use Rattle.redodb_model.specs.Command.{Command, File, Gone, Lock, Unlock, Start, IfChange, IfCreate, Always, Stamp, Done, Failed, Ood, Targets, Sources}
+use Rattle.redodb_model.specs.Command.{Command, File, Gone, Lock, Unlock, Start, IfChange, IfCreate, Always, Stamp, Done, Failed}
 use Rattle.redodb_model.specs.Reply.{Reply, Okay, Stale, Stamped, Refused, NotLocked, Building, NotBuilding, Itself, Exists}
 use Rattle.redodb_model.specs.Reply as replies
 use Rattle.redodb_model.specs.Renaming.{named_command, named_reply, AllBelow, IsBelow, IsReplyBelow}
@@ -42,19 +42,12 @@ module _ {M : Type 0} {to : Renaming M} (law : IsRenaming to) where
 
   reply_back : (reply : Reply ℕ) → IsReplyBelow to.count reply
       → named_reply number_or_zero (named_reply to.name reply) ≡ reply
-  reply_back Okay below = refl
-  reply_back (replies.Granted g) below = refl
-  reply_back (replies.Busy g) below = refl
   reply_back (Stale ns) below = ap Stale (list_back ns below)
-  reply_back (Stamped d) below = refl
   reply_back (replies.Ood ns) below = ap replies.Ood (list_back ns below)
   reply_back (replies.Targets ns) below = ap replies.Targets (list_back ns below)
   reply_back (replies.Sources ns) below = ap replies.Sources (list_back ns below)
-  reply_back (Refused NotLocked) below = refl
-  reply_back (Refused Building) below = refl
-  reply_back (Refused NotBuilding) below = refl
-  reply_back (Refused Itself) below = refl
   reply_back (Refused (Exists m)) below = ap (λ j. Refused (Exists j)) (number_back m below)
+  reply_back reply below = refl
 
   command_back : (command : Command ℕ) → IsBelow to.count command
       → named_command number_or_zero (named_command to.name command) ≡ command
@@ -71,9 +64,7 @@ module _ {M : Type 0} {to : Renaming M} (law : IsRenaming to) where
   command_back (Stamp t content) below = ap (λ m. Stamp m content) (number_back t below.0)
   command_back (Done t stamp) below = ap (λ m. Done m stamp) (number_back t below.0)
   command_back (Failed t) below = ap (λ m. Failed m) (number_back t below.0)
-  command_back Ood below = refl
-  command_back Targets below = refl
-  command_back Sources below = refl
+  command_back command below = refl
 
   place_back : (place : Place ℕ) → IsPlaceBelow to.count place
       → named_place number_or_zero (named_place to.name place) ≡ place

@@ -6,8 +6,7 @@ use Rattle.std.specs.Option.{option_or}
 use Rattle.std.specs.declared.cmp.Ordering.{Ordering}
 use Rattle.redodb_model.specs.Names.{Naming, numbers}
 use Rattle.redodb_model.specs.Command.{Command, Item}
-use Rattle.redodb_model.specs.Reply.{Reply, Okay, Granted, Busy, Stale, Stamped, Refused, lets_through}
-use Rattle.redodb_model.specs.Reply as replies
+use Rattle.redodb_model.specs.Reply.{Reply, Okay, lets_through}
 use Rattle.redodb_model.specs.Placed.{PlacedLine, line_of}
 use Rattle.redodb_model.specs.Closing.{closing_of}
 use Rattle.redodb_model.specs.Journals.{Numbered, first_from, next_line_of, closing_number, closing_after, next_of, IsJournalAfter, IsJournal, IsWholeJournal}
@@ -24,14 +23,7 @@ module _ {N M : Type 0} (name : N → M) where
   lets_through_named : (reply : Reply N)
       → lets_through (named_reply name reply) ≡ lets_through reply
   lets_through_named Okay = refl
-  lets_through_named (Granted g) = refl
-  lets_through_named (Busy g) = refl
-  lets_through_named (Stale ns) = refl
-  lets_through_named (Stamped digest) = refl
-  lets_through_named (replies.Ood ns) = refl
-  lets_through_named (replies.Targets ns) = refl
-  lets_through_named (replies.Sources ns) = refl
-  lets_through_named (Refused refusal) = refl
+  lets_through_named reply = refl
 
   found_named : (done : Bool) (here : ℕ) (item : Item N)
       (over : Option (Numbered M)) (rest : Option (Numbered N))

@@ -66,8 +66,6 @@ module _ {N : Type 0} {naming : Naming N} (law : IsNaming naming) where
       ≡ Stands naming next_place records next_own v next_command reply
   still (Row m) (Row n) records own next_own s v command next_command reply ne a =
       absurd (two_rows m n a)
-  still (Row m) (Granted t g) records own next_own s v command next_command reply ne a = refl
-  still (Row m) (Busy t g) records own next_own s v command next_command reply ne a = refl
   still (Row m) (Released t g) records own next_own s v command next_command reply ne a =
       λ i. (holds_by naming next_own (Some t) ≡ true)
       ×
@@ -75,9 +73,7 @@ module _ {N : Type 0} {naming : Naming N} (law : IsNaming naming) where
       (holds_by naming own (target_of command))
       command t ne i
       ≡ false)
-  still (Granted u f) next_place records own next_own s v command next_command reply ne a = refl
-  still (Busy u f) next_place records own next_own s v command next_command reply ne a = refl
-  still (Released u f) next_place records own next_own s v command next_command reply ne a = refl
+  still place next_place records own next_own s v command next_command reply ne a = refl
 
   records_swap : (place next_place : Place N) (records : Records N)
       (own next_own : List (PlacedLine N)) (s v : ℕ)
@@ -89,12 +85,7 @@ module _ {N : Type 0} {naming : Naming N} (law : IsNaming naming) where
       own s command
   records_swap (Row m) (Row n) records own next_own s v command next_command a =
       absurd (two_rows m n a)
-  records_swap (Row m) (Granted t g) records own next_own s v command next_command a = refl
-  records_swap (Row m) (Busy t g) records own next_own s v command next_command a = refl
-  records_swap (Row m) (Released t g) records own next_own s v command next_command a = refl
-  records_swap (Granted u f) next_place records own next_own s v command next_command a = refl
-  records_swap (Busy u f) next_place records own next_own s v command next_command a = refl
-  records_swap (Released u f) next_place records own next_own s v command next_command a = refl
+  records_swap place next_place records own next_own s v command next_command a = refl
 
   -- lines that are valid after some lines are valid after others with the same parts
   alike : (records : Records N) (before others lines : List (PlacedLine N))

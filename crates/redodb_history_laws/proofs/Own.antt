@@ -6,12 +6,11 @@ use mathlib.Core.Logic.{dite}
 use native.Mathlib.Decide.{ℕ_discrete}
 use Rattle.redodb_model.specs.Names.{Naming, put}
 use Rattle.redodb_model.specs.Support.Names.{IsNaming}
-use Rattle.redodb_model.specs.State.{Records, Cell, TargetState, Idle, Building, Built, target_state, is_building}
-use Rattle.redodb_model.specs.State as states
+use Rattle.redodb_model.specs.State.{Records, Cell, TargetState, Building, target_state, is_building}
 use Rattle.redodb_model.specs.Command.{Command, File, Gone, Start, Stamp, Done, Failed}
 use Rattle.redodb_model.specs.Reply.{Refusal, NotLocked, NotBuilding, Itself}
 use Rattle.redodb_model.specs.Reply as replies
-use Rattle.redodb_model.specs.Step.{verdict_of, effect_of, records_after, unless_refused, is_built_by}
+use Rattle.redodb_model.specs.Step.{verdict_of, effect_of, records_after, refusal_or, unless_refused, is_built_by}
 use Rattle.redodb_model.specs.Placed.{PlacedLine, part_of}
 use Rattle.redodb_model.proofs.Held.{test_failed}
 use Rattle.redodb_history_laws.proofs.Exchange.{In, in_cond, cond_in, cond_same, cond_other}
@@ -87,17 +86,13 @@ not_false true e = refl
 not_false false e = absurd (cc)
 
 pub not_building : (a : TargetState) (s : ℕ) → is_building a ≡ false → is_built_by s a ≡ false
-not_building Idle s e = refl
 not_building (Building u) s e = absurd (cc)
-not_building Built s e = refl
-not_building states.Failed s e = refl
+not_building state s e = refl
 
 other_builds : (a : TargetState) (u s : ℕ) → u ≢ s → is_built_by u a ≡ true
     → is_built_by s a ≡ false
-other_builds Idle u s ne e = refl
 other_builds (Building b) u s ne e = let q = eqb-true b u e in ne_eqb b s (λ z. ne (sym q ∙ z))
-other_builds Built u s ne e = refl
-other_builds states.Failed u s ne e = refl
+other_builds state u s ne e = refl
 
 module _ {N : Type 0} {naming : Naming N} (law : IsNaming naming) where
   built_at : (s : ℕ) (n x : N) (c : Cell) (f : N → Cell)
@@ -108,6 +103,15 @@ module _ {N : Type 0} {naming : Naming N} (law : IsNaming naming) where
         ∙ ap (λ k. is_built_by s (f k).state) ((law.decides n x).0 q)
     | inr q ↦ ap (λ b. is_built_by s (cond b c (f x)).state) q
   ]
+
+  not_built : (records : Records N) (u s : ℕ) (t : N) → u ≢ s
+      → ◌≡◌ {A = Option (Refusal N)}
+      (refusal_or (not (is_built_by u (target_state records t))) NotBuilding None) None
+      → is_built_by s (target_state records t) ≡ false
+  not_built records u s t ne v =
+      other_builds (target_state records t) u s ne
+      (not_false _
+      (test_failed (not (is_built_by u (target_state records t))) NotBuilding None v).0)
 
   accepted : (records : Records N) (u s : ℕ) (held : Bool) (command : Command N) (x : N) → u ≢ s
       → verdict_of naming records u held command ≡ None
@@ -123,19 +127,9 @@ module _ {N : Type 0} {naming : Naming N} (law : IsNaming naming) where
       (ne_eqb u s ne ∙ sym (not_building (target_state records t) s none))
   accepted records u s held (Stamp t content) x ne v = built_at s t x _ records.cell refl
   accepted records u s held (Done t stamp) x ne v =
-      built_at s t x _ records.cell
-      (sym
-      (other_builds (target_state records t) u s ne
-      (not_false _
-      (test_failed (not (is_built_by u (target_state records t))) NotBuilding None
-      v).0)))
+      built_at s t x _ records.cell (sym (not_built records u s t ne v))
   accepted records u s held (Failed t) x ne v =
-      built_at s t x _ records.cell
-      (sym
-      (other_builds (target_state records t) u s ne
-      (not_false _
-      (test_failed (not (is_built_by u (target_state records t))) NotBuilding None
-      v).0)))
+      built_at s t x _ records.cell (sym (not_built records u s t ne v))
   accepted records u s held c x ne v = refl
 
   by_verdict : (records : Records N) (u s : ℕ) (held : Bool) (command : Command N) (x : N)

@@ -9,7 +9,7 @@ use Rattle.redodb_model.specs.State.{State, Records, empty}
 use Rattle.redodb_model.specs.Command.{Item, target_of}
 use Rattle.redodb_model.specs.Step.{after, records_after}
 use Rattle.redodb_model.specs.History.{left_by, LegalFrom}
-use Rattle.redodb_model.specs.Placed.{Place, Row, Granted, Busy, Released, PlacedLine, line_of, part_of, is_row, IsPlacedAfter}
+use Rattle.redodb_model.specs.Placed.{Place, Row, PlacedLine, line_of, part_of, is_row, IsPlacedAfter}
 use Rattle.redodb_model.specs.Support.Placed.{holds_by}
 use Rattle.redodb_history_laws.specs.Words.{word_before, row_word_of, row_words_after, row_words_of}
 use Rattle.redodb_model.specs.Journals.{IsJournal}
@@ -81,9 +81,7 @@ module _ {naming : Naming ℕ} (law : IsNaming naming) where
         (records_after naming records line.session
         (holds_by naming own (target_of line.command))
         line.command)
-    at_place (Granted t g) records own line words rest few tells same = same records
-    at_place (Busy t g) records own line words rest few tells same = same records
-    at_place (Released t g) records own line words rest few tells same = same records
+    at_place place records own line words rest few tells same = same records
 
     replay_is : (records : Records ℕ) (before lines : List (PlacedLine ℕ))
         → AllTell law plan lines → AllByRecursion (λ line. line.session < 64) lines

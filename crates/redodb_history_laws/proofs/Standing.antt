@@ -76,11 +76,7 @@ module _ {N : Type 0} {naming : Naming N} (law : IsNaming naming) where
       (λ old. stands_before before line (Row q) (none.rows q old))
       (λ new. let same : r ≡ q = omega arith in
       stands_last before line (Row q) (e ∙ ap (λ k. Row k) same))
-  row_missing before line (Granted t g) q e follows push none below =
-      stands_before before line (Row q) (none.rows q (omega arith))
-  row_missing before line (Busy t g) q e follows push none below =
-      stands_before before line (Row q) (none.rows q (omega arith))
-  row_missing before line (Released t g) q e follows push none below =
+  row_missing before line place q e follows push none below =
       stands_before before line (Row q) (none.rows q (omega arith))
 
   grant_missing : (before : List (PlacedLine N)) (line : PlacedLine N) (place : Place N) (t : N)
@@ -90,8 +86,6 @@ module _ {N : Type 0} {naming : Naming N} (law : IsNaming naming) where
       ≡ grants_in naming before t + one_if (is_grant naming t place)
       → NoneMissing naming before → 1 ≤ f → f ≤ grants_in naming (before ++ line ∷ []) t
       → StandsIn (before ++ line ∷ []) (Granted t f)
-  grant_missing before line (Row r) t f e follows push none some below =
-      stands_before before line (Granted t f) (none.grants t f some (omega arith))
   grant_missing before line (Granted u g) t f e follows push none some below =
       dite (dec_lt (grants_in naming before t) f)
       (λ new. elim (cases_Bool (naming.same u t)) [
@@ -104,9 +98,7 @@ module _ {N : Type 0} {naming : Naming N} (law : IsNaming naming) where
         | inr not ↦ let c = ap one_if not in absurd (omega arith)
       ])
       (λ old. stands_before before line (Granted t f) (none.grants t f some (omega arith)))
-  grant_missing before line (Busy u g) t f e follows push none some below =
-      stands_before before line (Granted t f) (none.grants t f some (omega arith))
-  grant_missing before line (Released u g) t f e follows push none some below =
+  grant_missing before line place t f e follows push none some below =
       stands_before before line (Granted t f) (none.grants t f some (omega arith))
 
   release_missing : (before : List (PlacedLine N)) (line : PlacedLine N) (place : Place N) (t : N)
@@ -116,12 +108,6 @@ module _ {N : Type 0} {naming : Naming N} (law : IsNaming naming) where
       ≡ releases_in naming before t + one_if (is_release naming t place)
       → NoneMissing naming before → 1 ≤ f → f ≤ releases_in naming (before ++ line ∷ []) t
       → StandsIn (before ++ line ∷ []) (Released t f)
-  release_missing before line (Row r) t f e follows push none some below =
-      stands_before before line (Released t f) (none.releases t f some (omega arith))
-  release_missing before line (Granted u g) t f e follows push none some below =
-      stands_before before line (Released t f) (none.releases t f some (omega arith))
-  release_missing before line (Busy u g) t f e follows push none some below =
-      stands_before before line (Released t f) (none.releases t f some (omega arith))
   release_missing before line (Released u g) t f e follows push none some below =
       dite (dec_lt (releases_in naming before t) f)
       (λ new. elim (cases_Bool (naming.same u t)) [
@@ -134,6 +120,8 @@ module _ {N : Type 0} {naming : Naming N} (law : IsNaming naming) where
         | inr not ↦ let c = ap one_if not in absurd (omega arith)
       ])
       (λ old. stands_before before line (Released t f) (none.releases t f some (omega arith)))
+  release_missing before line place t f e follows push none some below =
+      stands_before before line (Released t f) (none.releases t f some (omega arith))
 
   none_missing_after : (before : List (PlacedLine N)) (line : PlacedLine N)
       → NoneMissing naming before → Follows naming before line.place

@@ -6,7 +6,7 @@ use Rattle.redodb_model.specs.State.{State, Locks, empty}
 use Rattle.redodb_model.specs.Command.{Command}
 use Rattle.redodb_model.specs.Step.{locks_freed, holds_name, is_held_by}
 use Rattle.redodb_model.proofs.Held.{BuildersHold, builders_hold_at_first}
-use Rattle.redodb_model.specs.Placed.{Place, Row, Granted, Busy, Released, PlacedLine, part_of, grants_in, releases_in}
+use Rattle.redodb_model.specs.Placed.{Place, Granted, Released, PlacedLine, part_of, grants_in, releases_in}
 use Rattle.redodb_model.specs.Support.Placed.{holds_by}
 use Rattle.redodb_history_laws.specs.ByRows.{records_by}
 use Rattle.redodb_history_laws.proofs.Counts.{one_if}
@@ -64,14 +64,13 @@ module _ {N : Type 0} (naming : Naming N) where
 
   -- the locks after a step at a place
   abbrev pub locks_by : Place N → Locks N → ℕ → Locks N
-  locks_by (Row r) locks s = locks
   locks_by (Granted t g) locks s =
       record {
         holder = put naming t (Some s) locks.holder;
         grants = put naming t (locks.grants t + 1) locks.grants;
       }
-  locks_by (Busy t g) locks s = locks
   locks_by (Released t g) locks s = locks_freed naming locks t
+  locks_by place locks s = locks
 
   abbrev pub state_by : Place N → State N → List (PlacedLine N) → ℕ → Command N → State N
   state_by p st own s c =

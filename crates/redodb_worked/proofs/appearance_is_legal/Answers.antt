@@ -1,4 +1,4 @@
-use Rattle.redodb_worked.proofs.Appearance.{appearance_legal}
+use Rattle.redodb_worked.proofs.Legal.{appearance_legal}
 use Rattle.redodb_worked.proofs.appearance_is_legal.Goals as goal
 
 pub returns : goal.returns

@@ -2,7 +2,7 @@ use Rattle.std.proofs.Common.{[], ◌∷◌, refl}
 use Rattle.std.specs.Prelude.{codes}
 use Rattle.redodb_model.specs.Reply.{Ood}
 use Rattle.redodb_worked.specs.Worked.{own_reasons}
-use Rattle.redodb_worked.proofs.OwnReasons.{own_reasons_legal}
+use Rattle.redodb_worked.proofs.Legal.{own_reasons_legal}
 use Rattle.redodb_worked.proofs.Changed.{same_reply}
 use Rattle.redodb_worked.proofs.building_up_to_date_is_not_legal.Goals as goal
 

@@ -1,4 +1,4 @@
-use Rattle.redodb_worked.proofs.ChainThrough.{chain_legal}
+use Rattle.redodb_worked.proofs.Legal.{chain_legal}
 use Rattle.redodb_worked.proofs.chain_is_legal.Goals as goal
 
 pub returns : goal.returns

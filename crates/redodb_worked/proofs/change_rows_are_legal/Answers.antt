@@ -1,4 +1,4 @@
-use Rattle.redodb_worked.proofs.ChangeRows.{change_rows_legal}
+use Rattle.redodb_worked.proofs.Legal.{change_rows_legal}
 use Rattle.redodb_worked.proofs.change_rows_are_legal.Goals as goal
 
 pub returns : goal.returns

@@ -1,4 +1,4 @@
-use Rattle.redodb_worked.proofs.CommonPath.{common_path_legal}
+use Rattle.redodb_worked.proofs.Legal.{common_path_legal}
 use Rattle.redodb_worked.proofs.common_path_is_legal.Goals as goal
 
 pub returns : goal.returns

@@ -2,7 +2,7 @@ use Rattle.std.proofs.Common.{[], ◌∷◌, refl}
 use Rattle.std.specs.Prelude.{codes}
 use Rattle.redodb_model.specs.Reply.{Ood}
 use Rattle.redodb_worked.specs.Worked.{chain_without_a_file}
-use Rattle.redodb_worked.proofs.ChainThrough.{chain_legal}
+use Rattle.redodb_worked.proofs.Legal.{chain_legal}
 use Rattle.redodb_worked.proofs.Changed.{same_reply}
 use Rattle.redodb_worked.proofs.cut_chain_is_not_legal.Goals as goal
 

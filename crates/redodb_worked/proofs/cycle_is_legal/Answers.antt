@@ -1,4 +1,4 @@
-use Rattle.redodb_worked.proofs.Cycle.{cycle_legal}
+use Rattle.redodb_worked.proofs.Legal.{cycle_legal}
 use Rattle.redodb_worked.proofs.cycle_is_legal.Goals as goal
 
 pub returns : goal.returns

@@ -2,7 +2,7 @@ use Rattle.std.proofs.Common.{[], ◌∷◌, refl}
 use Rattle.std.specs.Prelude.{codes}
 use Rattle.redodb_model.specs.Reply.{Ood}
 use Rattle.redodb_worked.specs.Worked.{cycle}
-use Rattle.redodb_worked.proofs.Cycle.{cycle_legal}
+use Rattle.redodb_worked.proofs.Legal.{cycle_legal}
 use Rattle.redodb_worked.proofs.Changed.{same_reply}
 use Rattle.redodb_worked.proofs.cycle_out_of_date_is_not_legal.Goals as goal
 

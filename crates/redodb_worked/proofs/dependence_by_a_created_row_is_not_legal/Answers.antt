@@ -2,7 +2,7 @@ use Rattle.std.proofs.Common.{[], ◌∷◌, refl}
 use Rattle.std.specs.Prelude.{codes}
 use Rattle.redodb_model.specs.Reply.{Ood}
 use Rattle.redodb_worked.specs.Worked.{rows_of_both_kinds}
-use Rattle.redodb_worked.proofs.RowsOfBothKinds.{rows_of_both_kinds_legal}
+use Rattle.redodb_worked.proofs.Legal.{rows_of_both_kinds_legal}
 use Rattle.redodb_worked.proofs.Changed.{same_reply}
 use Rattle.redodb_worked.proofs.dependence_by_a_created_row_is_not_legal.Goals as goal
 

@@ -2,7 +2,7 @@ use Rattle.std.proofs.Common.{[], ◌∷◌, refl}
 use Rattle.std.specs.Prelude.{codes}
 use Rattle.redodb_model.specs.Reply.{Ood}
 use Rattle.redodb_worked.specs.Worked.{failed_mark}
-use Rattle.redodb_worked.proofs.FailedMark.{failed_mark_legal}
+use Rattle.redodb_worked.proofs.Legal.{failed_mark_legal}
 use Rattle.redodb_worked.proofs.Changed.{same_reply}
 use Rattle.redodb_worked.proofs.failed_mark_by_content_is_not_legal.Goals as goal
 

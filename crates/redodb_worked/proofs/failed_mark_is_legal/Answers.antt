@@ -1,4 +1,4 @@
-use Rattle.redodb_worked.proofs.FailedMark.{failed_mark_legal}
+use Rattle.redodb_worked.proofs.Legal.{failed_mark_legal}
 use Rattle.redodb_worked.proofs.failed_mark_is_legal.Goals as goal
 
 pub returns : goal.returns

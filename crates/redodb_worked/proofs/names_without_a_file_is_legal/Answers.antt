@@ -1,4 +1,4 @@
-use Rattle.redodb_worked.proofs.NamesWithoutAFile.{names_without_a_file_legal}
+use Rattle.redodb_worked.proofs.Legal.{names_without_a_file_legal}
 use Rattle.redodb_worked.proofs.names_without_a_file_is_legal.Goals as goal
 
 pub returns : goal.returns

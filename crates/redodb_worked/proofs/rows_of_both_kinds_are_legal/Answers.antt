@@ -1,4 +1,4 @@
-use Rattle.redodb_worked.proofs.RowsOfBothKinds.{rows_of_both_kinds_legal}
+use Rattle.redodb_worked.proofs.Legal.{rows_of_both_kinds_legal}
 use Rattle.redodb_worked.proofs.rows_of_both_kinds_are_legal.Goals as goal
 
 pub returns : goal.returns

@@ -2,7 +2,7 @@ use Rattle.std.proofs.Common.{[], ◌∷◌, refl}
 use Rattle.std.specs.Prelude.{codes}
 use Rattle.redodb_model.specs.Reply.{Ood}
 use Rattle.redodb_worked.specs.Worked.{appearance}
-use Rattle.redodb_worked.proofs.Appearance.{appearance_legal}
+use Rattle.redodb_worked.proofs.Legal.{appearance_legal}
 use Rattle.redodb_worked.proofs.Changed.{same_reply}
 use Rattle.redodb_worked.proofs.unseen_appearance_is_not_legal.Goals as goal
 
