@@ -1,7 +1,7 @@
 -- A placed history is legal exactly if each of its lines is valid (`Stands`).
 use Rattle.std.proofs.Common.{◌≡◌, ℕ, ◌+◌, true, cond, eqb, List, [], ◌∷◌, ◌++◌, Option, Some, None, is_some, map, sym, ap, ◌∙◌, subst, inl, inr, arith, eqb-true}
 use Rattle.std.proofs.lemmas.Bool.{cases_Bool, false≢true}
-use Rattle.redodb_model.specs.Names.{Naming, put}
+use Rattle.redodb_model.specs.Names.{Naming}
 use Rattle.redodb_model.specs.Support.Names.{IsNaming}
 use Rattle.redodb_model.specs.State.{State, empty}
 use Rattle.redodb_model.specs.Step.{after, is_held_by}
@@ -23,19 +23,10 @@ module _ {N : Type 0} {naming : Naming N} (law : IsNaming naming) where
       → (locks_by naming place state.locks line.session).grants t
       ≡ grants_in naming (before ++ line ∷ []) t
   grants_at state before line (Granted u g) t tied push = elim (cases_Bool (naming.same u t)) [
-    | inl e ↦ let a = tied.grants u in
-        let b = ap (grants_in naming before) ((law.decides u t).0 e) in
-        let c = ap one_if e in
-        let d : put naming u (state.locks.grants u + 1) state.locks.grants t
-        ≡ state.locks.grants u + 1 =
-        ap (λ b. cond b (state.locks.grants u + 1) (state.locks.grants t)) e in
-        omega arith
-    | inr e ↦ let a = tied.grants t in
-        let c = ap one_if e in
-        let d : put naming u (state.locks.grants u + 1) state.locks.grants t
-        ≡ state.locks.grants t =
-        ap (λ b. cond b (state.locks.grants u + 1) (state.locks.grants t)) e in
-        omega arith
+    | inl e ↦
+        let p = rw e at push in
+        rw e (omega (arith, tied.grants u, ap (grants_in naming before) ((law.decides u t).0 e)))
+    | inr e ↦ let p = rw e at push in rw e (omega (arith, tied.grants t))
   ]
   grants_at state before line place t tied push = let a = tied.grants t in omega arith
 
@@ -50,38 +41,22 @@ module _ {N : Type 0} {naming : Naming N} (law : IsNaming naming) where
       ≡ releases_in naming (before ++ line ∷ []) t + one_if
       (is_some ((locks_by naming place state.locks line.session).holder t))
   held_at state before line (Granted u g) t tied h gs rs = elim (cases_Bool (naming.same u t)) [
-    | inl e ↦ let same = (law.decides u t).0 e in
-        let a = h.0 in
-        let b = h.1 in
+    | inl e ↦
+        let same = (law.decides u t).0 e in
+        let p = rw e at gs in
         let c = ap (grants_in naming before) same in
         let d = ap (releases_in naming before) same in
-        let f = ap one_if e in
-        let k : one_if (is_some (put naming u (Some line.session) state.locks.holder t)) ≡ 1 =
-        ap (λ b. one_if (is_some (cond b (Some line.session) (state.locks.holder t)))) e in
-        omega arith
-    | inr e ↦ let f = ap one_if e in
-        let a = tied.held t in
-        let k : one_if (is_some (put naming u (Some line.session) state.locks.holder t))
-        ≡ one_if (is_some (state.locks.holder t)) =
-        ap (λ b. one_if (is_some (cond b (Some line.session) (state.locks.holder t)))) e in
-        omega arith
+        rw e (omega (arith, h.0, h.1))
+    | inr e ↦ let p = rw e at gs in rw e (omega (arith, tied.held t))
   ]
   held_at state before line (Released u g) t tied h gs rs = elim (cases_Bool (naming.same u t)) [
-    | inl e ↦ let same = (law.decides u t).0 e in
-        let a = h.0 in
-        let b = h.1 in
+    | inl e ↦
+        let same = (law.decides u t).0 e in
+        let p = rw e at rs in
         let c = ap (grants_in naming before) same in
         let d = ap (releases_in naming before) same in
-        let f = ap one_if e in
-        let k : one_if (is_some (put naming u None state.locks.holder t)) ≡ 0 =
-        ap (λ b. one_if (is_some (cond b None (state.locks.holder t)))) e in
-        omega arith
-    | inr e ↦ let f = ap one_if e in
-        let a = tied.held t in
-        let k : one_if (is_some (put naming u None state.locks.holder t))
-        ≡ one_if (is_some (state.locks.holder t)) =
-        ap (λ b. one_if (is_some (cond b None (state.locks.holder t)))) e in
-        omega arith
+        rw e (omega (arith, h.0, h.1))
+    | inr e ↦ let p = rw e at rs in rw e (omega (arith, tied.held t))
   ]
   held_at state before line place t tied h gs rs = let a = tied.held t in omega arith
 
@@ -108,53 +83,32 @@ module _ {N : Type 0} {naming : Naming N} (law : IsNaming naming) where
   own_at state before line (Granted u g) v t tied h stands gs rs =
       let z = no_step (eqb line.session v) in
       elim (cases_Bool (naming.same u t)) [
-        | inl e ↦ let same = (law.decides u t).0 e in
-            let a = h.0 in
-            let b = h.1 in
+        | inl e ↦
+            let same = (law.decides u t).0 e in
+            let p = rw e at gs in
             let c = ap (grants_in naming before) same in
             let d = ap (releases_in naming before) same in
-            let f : cond (eqb line.session v) (one_if (naming.same u t)) 0
-            ≡ one_if (eqb line.session v) =
-            ap (λ b. cond (eqb line.session v) (one_if b) 0) e in
-            let k : one_if (is_held_by v (put naming u (Some line.session) state.locks.holder t))
-            ≡ one_if (eqb line.session v) =
-            ap (λ b. one_if (is_held_by v (cond b (Some line.session) (state.locks.holder t)))) e in
-            let w = tied.held t in
-            let y = not_held v (state.locks.holder t) (omega arith) in
-            let x = tied.own v t in omega arith
-        | inr e ↦ let f : cond (eqb line.session v) (one_if (naming.same u t)) 0
-            ≡ cond (eqb line.session v) 0 0 = ap (λ b. cond (eqb line.session v) (one_if b) 0) e in
-            let a = tied.own v t in
-            let k : one_if (is_held_by v (put naming u (Some line.session) state.locks.holder t))
-            ≡ one_if (is_held_by v (state.locks.holder t)) =
-            ap (λ b. one_if (is_held_by v (cond b (Some line.session) (state.locks.holder t)))) e in
-            omega arith
+            let free : grants_in naming before t ≡ releases_in naming before t =
+            omega (arith, h.0, h.1) in
+            let y = not_held v (state.locks.holder t) (omega (arith, tied.held t)) in
+            rw e (omega (arith, tied.own v t))
+        | inr e ↦ let p = rw e at gs in rw e (omega (arith, tied.own v t))
       ]
   own_at state before line (Released u g) v t tied h stands gs rs =
       let z = no_step (eqb line.session v) in
       elim (cases_Bool (naming.same u t)) [
-        | inl e ↦ let same = (law.decides u t).0 e in
-            let f : cond (eqb line.session v) (one_if (naming.same u t)) 0
-            ≡ one_if (eqb line.session v) =
-            ap (λ b. cond (eqb line.session v) (one_if b) 0) e in
-            let k : one_if (is_held_by v (put naming u None state.locks.holder t)) ≡ 0 =
-            ap (λ b. one_if (is_held_by v (cond b None (state.locks.holder t)))) e in
+        | inl e ↦
+            let p = rw e at rs in
             let mine : is_held_by line.session (state.locks.holder t) ≡ true =
-            subst (λ n. is_held_by line.session (state.locks.holder n) ≡ true) same
+            subst (λ n. is_held_by line.session (state.locks.holder n) ≡ true)
+            ((law.decides u t).0 e)
             (sym (flag naming state before line.session (Some u) tied) ∙ stands.0) in
             let y = holder_is line.session v (state.locks.holder t) mine in
-            let x = tied.own v t in omega arith
-        | inr e ↦ let f : cond (eqb line.session v) (one_if (naming.same u t)) 0
-            ≡ cond (eqb line.session v) 0 0 = ap (λ b. cond (eqb line.session v) (one_if b) 0) e in
-            let a = tied.own v t in
-            let k : one_if (is_held_by v (put naming u None state.locks.holder t))
-            ≡ one_if (is_held_by v (state.locks.holder t)) =
-            ap (λ b. one_if (is_held_by v (cond b None (state.locks.holder t)))) e in
-            omega arith
+            rw e (omega (arith, tied.own v t))
+        | inr e ↦ let p = rw e at rs in rw e (omega (arith, tied.own v t))
       ]
-  own_at state before line place v t tied h stands gs rs = let a = tied.own v t in
-      let b = no_step (eqb line.session v) in
-      omega arith
+  own_at state before line place v t tied h stands gs rs =
+      omega (arith, tied.own v t, no_step (eqb line.session v))
 
   -- the ties go on over a line
   pub tied_after : (state : State N) (before : List (PlacedLine N)) (line : PlacedLine N)

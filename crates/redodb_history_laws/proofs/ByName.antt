@@ -24,9 +24,7 @@ count_map f p q P same [] all = refl
 count_map f p q P same (x ∷ xs) all =
     let a = sum_by-cons (λ y. one_if (p y)) (f x) (map f xs) in
     let b = sum_by-cons (λ y. one_if (q y)) x xs in
-    let c = ap one_if (same x all.0) in
-    let d = count_map f p q P same xs all.1 in
-    omega arith
+    omega (arith, ap one_if (same x all.0), count_map f p q P same xs all.1)
 
 pub all_push : {A : Type 0} (P : A → Type 0) (xs : List A) (x : A) → AllByRecursion P xs → P x
     → AllByRecursion P (xs ++ x ∷ [])

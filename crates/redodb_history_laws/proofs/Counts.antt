@@ -82,14 +82,10 @@ module _ {N : Type 0} {naming : Naming N} (law : IsNaming naming) where
   counters_at before line (Row r) None rows grants releases = omega arith
   counters_at before line (Granted u g) None rows grants releases = omega arith
   counters_at before line (Busy u g) None rows grants releases = omega arith
-  counters_at before line (Busy u g) (Some t) rows grants releases = let a = grants t in
-      let b = releases t in
-      let d = no_step (same_counter naming (Some t) (Some u)) in
-      omega arith
+  counters_at before line (Busy u g) (Some t) rows grants releases =
+      omega (arith, grants t, releases t, no_step (same_counter naming (Some t) (Some u)))
   counters_at before line (Released u g) None rows grants releases = omega arith
-  counters_at before line place (Some t) rows grants releases = let a = grants t in
-      let b = releases t in
-      omega arith
+  counters_at before line place (Some t) rows grants releases = omega (arith, grants t, releases t)
 
   pub counters_after : (before : List (PlacedLine N)) (line : PlacedLine N)
       → counters naming (before ++ line ∷ []) ≡ after (tickets law) (counters naming before) line

@@ -133,9 +133,7 @@ module _ {N : Type 0} {naming : Naming N} (law : IsNaming naming) where
   claim_at lines line t pair follows =
       let a = word_is naming lines t pair in
       let b = word_is naming (lines ++ line ∷ []) t (paired_after law lines line pair follows) in
-      let c = grants_push naming lines line t in
-      let d = releases_push naming lines line t in
-      omega arith
+      omega (arith, grants_push naming lines line t, releases_push naming lines line t)
 
   -- the claim words after one line more
   pub claim_words_more : (lines : List (PlacedLine N)) (line : PlacedLine N)
@@ -173,9 +171,7 @@ module _ {N : Type 0} {naming : Naming N} (law : IsNaming naming) where
       let st = left_by naming empty (map line_of lines) in
       let some =
       held_some s (st.locks.holder t) (sym (flag naming st lines s (Some t) tied) ∙ holds) in
-      let a = word_is naming lines t (paired_by law lines placed) in
-      let b = tied.held t in
-      omega arith
+      omega (arith, word_is naming lines t (paired_by law lines placed), tied.held t)
 
   -- the four events: a row
   pub row_event : (lines : List (PlacedLine N)) (s number : ℕ) (command : Command N)
