@@ -1,5 +1,5 @@
 -- Tables that grow.
-use Rattle.std.proofs.Common.{◌≡◌, ◌==◌, ℕ, zero, suc, ◌<◌, ◌≤◌, ◌+◌, Bool, true, false, inl, inr, List, [], ◌∷◌, ◌++◌, length, get_or, map, take, Some, None, slice_get, refl, sym, ap, ◌∙◌, subst, arith, append-nil, append_assoc, if◌then◌else◌}
+use Rattle.std.proofs.Common.{◌≡◌, ◌==◌, ℕ, zero, suc, ◌<◌, ◌≤◌, ◌+◌, Bool, true, false, inl, inr, List, [], ◌∷◌, ◌++◌, length, get_or, map, take, Some, slice_get, refl, sym, ap, ◌∙◌, subst, arith, append-nil, append_assoc, if◌then◌else◌}
 use Rattle.std.specs.Prelude.{Result, Ok, Err, OnOk}
 use Rattle.std.specs.List.{AllZip, IsDistinct, list_any}
 use Rattle.std.proofs.lemmas.Bool.{cases_order, false≢true}
@@ -12,7 +12,7 @@ use Rattle.indexmap.specs.IndexSet.{insert_key}
 use Rattle.redodb_model.specs.Command.{Command}
 use Rattle.redodb_graph.specs.declared.step.Listed.{Listed}
 use Rattle.redodb_graph.specs.declared.step.Step.{Step}
-use Rattle.redodb_graph.specs.declared.step.Step.TheVariants.{File, Gone, Lock, Unlock, Start, IfChange, IfCreate, Always, Stamp, Done, Failed, Ood, Targets, Sources}
+use Rattle.redodb_graph.specs.declared.step.Step.TheVariants.{File, IfChange, IfCreate, Stamp, Done}
 use Rattle.redodb_graph.specs.Graphs.{IsOnce}
 use Rattle.redodb_graph.specs.Steps.{TablesOf, AreListed, Means}
 use Rattle.redodb_graph.specs.Support.Tables.{IsPrefix, Grows, ArePlaces}
@@ -109,37 +109,24 @@ module _ (a b : TablesOf) (grows : Grows a b) where
 
   pub means_more : (step : Step) (x : Command ℕ) → Means a step x → Means b step x
   means_more (File n i) x m = (m.0, m.1, prefix_get a.stamps b.stamps grows.stamps i m.0 m.2)
-  means_more (Gone n) x m = m
-  means_more (Lock t) x m = m
-  means_more (Unlock t) x m = m
-  means_more (Start t) x m = m
   means_more (IfChange t list) x m = (m.0, m.1, listed_more t m.0 list m.2)
   means_more (IfCreate t list) x m = (m.0, m.1, listed_more t m.0 list m.2)
-  means_more (Always t) x m = m
   means_more (Stamp t i) x m =
       (m.0, m.1, prefix_get a.digests b.digests grows.digests i _ m.2)
-  means_more (Done t None) x m = m
   means_more (Done t (Some i)) x m =
       (m.0, m.1, prefix_get a.stamps b.stamps grows.stamps i m.0 m.2)
-  means_more (Failed t) x m = m
-  means_more Ood x m = m
-  means_more Targets x m = m
-  means_more Sources x m = m
+  means_more step x m = m
 
 module _ {A B : Type 0} (R S : A → B → Type 0) (then' : (x : A) (y : B) → R x y → S x y) where
   pub all_weaker : (xs : List A) (ys : List B) → AllZip R xs ys → AllZip S xs ys
-  all_weaker [] [] h = h
-  all_weaker [] (y ∷ ys) h = h
-  all_weaker (x ∷ xs) [] h = h
   all_weaker (x ∷ xs) (y ∷ ys) h = (then' x y h.0, all_weaker xs ys h.1)
+  all_weaker xs ys h = h
 
 module _ {A B C : Type 0} (R : B → C → Type 0) (f : A → B) where
   pub all_mapped : (xs : List A) (ys : List C) → AllZip (λ x y. R (f x) y) xs ys
       → AllZip R (map f xs) ys
-  all_mapped [] [] h = h
-  all_mapped [] (y ∷ ys) h = h
-  all_mapped (x ∷ xs) [] h = h
   all_mapped (x ∷ xs) (y ∷ ys) h = (h.0, all_mapped xs ys h.1)
+  all_mapped xs ys h = h
 
 module _ {A B C : Type 0} (R : A → C → Type 0) (f : B → C) where
   pub all_mapped_right : (xs : List A) (ys : List B) → AllZip (λ x y. R x (f y)) xs ys
