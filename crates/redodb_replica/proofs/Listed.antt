@@ -201,9 +201,7 @@ module _ (tables : TablesOf) (count : ℕ) where
   ready_of (steps.Done t None) x m b = (subst (IsBelow count) m b).0
   ready_of (steps.Done t (Some i)) x m b = (subst (IsBelow count) m.1 b).0
   ready_of (steps.Failed t) x m b = (subst (IsBelow count) m b).0
-  ready_of steps.Ood x m b = tt
-  ready_of steps.Targets x m b = tt
-  ready_of steps.Sources x m b = tt
+  ready_of step x m b = tt
 
   pub ready : (step : Step) → IsStepBelow tables count step → IsReady tables count step
   ready step below = ready_of step below.0 below.1 below.2

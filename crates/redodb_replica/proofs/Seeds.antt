@@ -114,8 +114,6 @@ pub seed_below : (tables : TablesOf) (count : ℕ) (step : Step) → IsReady tab
     → IfSome (step_seed step) (λ n. n < count)
 seed_below tables count (steps.File n i) ready = ready
 seed_below tables count (steps.Gone n) ready = ready
-seed_below tables count (steps.Lock t) ready = tt
-seed_below tables count (steps.Unlock t) ready = tt
 seed_below tables count (steps.Start t) ready = ready
 seed_below tables count (steps.IfChange t list) ready = ready.0
 seed_below tables count (steps.IfCreate t list) ready = ready.0
@@ -123,9 +121,7 @@ seed_below tables count (steps.Always t) ready = ready
 seed_below tables count (steps.Stamp t i) ready = ready
 seed_below tables count (steps.Done t stamp) ready = ready
 seed_below tables count (steps.Failed t) ready = ready
-seed_below tables count steps.Ood ready = tt
-seed_below tables count steps.Targets ready = tt
-seed_below tables count steps.Sources ready = tt
+seed_below tables count step ready = tt
 
 -- a name that gets the file that it has
 module _ (tables : TablesOf) (cells : List CompactCell) (rows : List Row) (n : ℕ) where

@@ -9,33 +9,21 @@ use Rattle.redodb_records.specs.Refusals.{refusal_by_target, refusal_of_names, k
 use Rattle.redodb_records.specs.Rows.{by_number}
 use Rattle.redodb_records.proofs.Refusals.{verdict_on_target}
 use Rattle.redodb_graph.specs.declared.step.Step.{Step}
-use Rattle.redodb_graph.specs.declared.step.Step.TheVariants.{File, Gone, Lock, Unlock, Start, IfChange, IfCreate, Always, Stamp, Done, Failed, Ood, Targets, Sources}
+use Rattle.redodb_graph.specs.declared.step.Step.TheVariants.{File, Unlock, Start, IfChange, IfCreate, Always, Stamp, Done, Failed}
 use Rattle.redodb_graph.specs.Steps.{TablesOf, Means}
 use Rattle.redodb_replica.specs.Support.Steps.{step_kind, step_target}
 
 module _ (tables : TablesOf) where
   same_kind : (step : Step) (x : Command ℕ) → Means tables step x → step_kind step ≡ kind_for x
   same_kind (File n i) x m = sym (ap kind_for m.1)
-  same_kind (Gone n) x m = sym (ap kind_for m)
-  same_kind (Lock t) x m = sym (ap kind_for m)
-  same_kind (Unlock t) x m = sym (ap kind_for m)
-  same_kind (Start t) x m = sym (ap kind_for m)
   same_kind (IfChange t list) x m = sym (ap kind_for m.1)
   same_kind (IfCreate t list) x m = sym (ap kind_for m.1)
-  same_kind (Always t) x m = sym (ap kind_for m)
   same_kind (Stamp t i) x m = sym (ap kind_for m.1)
-  same_kind (Done t None) x m = sym (ap kind_for m)
   same_kind (Done t (Some i)) x m = sym (ap kind_for m.1)
-  same_kind (Failed t) x m = sym (ap kind_for m)
-  same_kind Ood x m = sym (ap kind_for m)
-  same_kind Targets x m = sym (ap kind_for m)
-  same_kind Sources x m = sym (ap kind_for m)
+  same_kind step x m = sym (ap kind_for m)
 
   same_target : (step : Step) (x : Command ℕ) (t : ℕ) → Means tables step x
       → Some t ≡ step_target step → target_of x ≡ Some t
-  same_target (File n i) x t m on = cc
-  same_target (Gone n) x t m on = cc
-  same_target (Lock u) x t m on = cc
   same_target (Unlock u) x t m on = ap target_of m ∙ sym on
   same_target (Start u) x t m on = ap target_of m ∙ sym on
   same_target (IfChange u list) x t m on = ap target_of m.1 ∙ sym on
@@ -45,9 +33,7 @@ module _ (tables : TablesOf) where
   same_target (Done u None) x t m on = ap target_of m ∙ sym on
   same_target (Done u (Some i)) x t m on = ap target_of m.1 ∙ sym on
   same_target (Failed u) x t m on = ap target_of m ∙ sym on
-  same_target Ood x t m on = cc
-  same_target Targets x t m on = cc
-  same_target Sources x t m on = cc
+  same_target step x t m on = cc
 
   -- the refusal by the target's state, else that of the names, is the verdict
   pub verdict_by_parts : (r : Records ℕ) (s : ℕ) (holds : Bool) (step : Step) (x : Command ℕ)

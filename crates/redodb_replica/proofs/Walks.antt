@@ -6,7 +6,7 @@ use Rattle.std.proofs.lemmas.Bool.{cases_lt}
 use Rattle.std.proofs.lemmas.List.{get_or_past, get_or-map, length-map, take_all}
 use Rattle.std.proofs.lemmas.List.Elements.{Contains-get_or}
 use Rattle.std.proofs.lemmas.Option.{slice_get-get_or, slice_get_within, get_or_from_slice_get}
-use Rattle.redodb_model.specs.OutOfDate.{IsTarget, HasChangeRow, HasRow, Depends}
+use Rattle.redodb_model.specs.OutOfDate.{IsTarget, HasChangeRow, HasCreatedRow}
 use Rattle.redodb_model.proofs.Members.{contains_map}
 use Rattle.redodb_memo.specs.NameSet.{Marked, Enters}
 use Rattle.redodb_memo.proofs.Marking.{enters_one_more}
@@ -213,15 +213,25 @@ module _ (graph : GraphOf) (cells : List CompactCell) (rows : List Row) (n t : �
       let same = some_map (mark_for graph.tables.stamps graph.tables.digests) (change_of own) in
       (λ has. sym same ∙ has, λ has. same ∙ has)
 
-  -- what depends on n, and what has a row on it, by the rows at the pairs' places
-  pub depends_is : Depends (records_in graph.tables cells rows) t n
-      ↔ Holds graph cells rows n (λ row. IsSome (change_of row)) t
-  depends_is = (λ d. (d.0, change_is.0 d.1), λ h. (h.0, change_is.1 h.1))
-
-  pub has_row_is : (IsTarget (records_in graph.tables cells rows) t
-      × HasRow (records_in graph.tables cells rows) t n)
-      ↔ Holds graph cells rows n (λ row. IsSome (change_of row) ⊎ IsTrue row.created) t
-  has_row_is = (
+  -- what has a row on n, by the rows at the pairs' places
+  pub has_row_is : (created : Bool)
+      → (IsTarget (records_in graph.tables cells rows) t
+      × (HasChangeRow (records_in graph.tables cells rows) t n
+      ⊎ (IsTrue created × HasCreatedRow (records_in graph.tables cells rows) t n)))
+      ↔ Holds graph cells rows n
+      (λ row. IsSome (change_of row) ⊎ (IsTrue created × IsTrue row.created)) t
+  has_row_is created = (
     λ d. (d.0, elim d.1 [ inl change ↦ inl (change_is.0 change) | inr made ↦ inr made ]),
     λ h. (h.0, elim h.1 [ inl change ↦ inl (change_is.1 change) | inr made ↦ inr made ]),
   )
+
+-- the same names under another fact
+pub enters_alike : {P Q : ℕ → Type 0} {a b : Marked} → ((t : ℕ) → P t ↔ Q t) → Enters P a b
+    → Enters Q a b
+enters_alike same e = record {
+  grown = e.grown;
+  each = λ t. (
+    λ on. elim ((e.each t).0 on) [ inl old ↦ inl old | inr p ↦ inr ((same t).0 p) ],
+    λ s. (e.each t).1 (elim s [ inl old ↦ inl old | inr q ↦ inr ((same t).1 q) ]),
+  );
+}

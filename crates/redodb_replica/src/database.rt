@@ -5,7 +5,7 @@ use crate::cells::CompactCells;
 use crate::needs::depends_on_marked;
 use crate::reason::has_reason;
 use crate::rows::PairRows;
-use crate::targets::{enter_dependents, enter_holders};
+use crate::targets::enter_holders;
 use redodb_graph::Graph;
 use redodb_memo::{Dependencies, NameSet};
 use std::marker::Model;
@@ -41,12 +41,12 @@ impl<'a> Dependencies for Database<'a> {
 
     #[inline]
     fn enter_dependents(&self, n: u32, marks: &mut NameSet) {
-        enter_dependents(self.graph, self.cells, self.rows, n, marks);
+        enter_holders(self.graph, self.cells, self.rows, n, false, marks);
     }
 
     #[inline]
     fn enter_holders(&self, n: u32, marks: &mut NameSet) {
-        enter_holders(self.graph, self.cells, self.rows, n, marks);
+        enter_holders(self.graph, self.cells, self.rows, n, true, marks);
     }
 
     #[inline]

@@ -1,7 +1,7 @@
 //! Whether a name is a target, and the marks of those with a row on a name.
 
 ghost use Rattle.std.specs.Prelude.{◌≡◌, ◌≢◌, ◌<◌, ◌↔◌, ◌⊎◌, IsTrue, IsSome, length};
-ghost use Rattle.redodb_model.specs.OutOfDate.{IsTarget, Depends, HasRow};
+ghost use Rattle.redodb_model.specs.OutOfDate.{IsTarget, HasChangeRow, HasCreatedRow};
 ghost use Rattle.redodb_model.specs.State as states;
 ghost use Rattle.redodb_memo.specs.NameSet.{Enters, size_of};
 ghost use Rattle.redodb_replica.specs.CompactCells.{cell_at, compact_state_of};
@@ -29,62 +29,36 @@ pub(crate) fn has_change(row: &Row) -> bool
     row.change().is_some()
 }
 
-/// Whether it is a target, and there is a change row.
-fn is_dependent(cells: &CompactCells, t: u32, row: &Row) -> bool
+/// Whether it is a target, and there is a change row, or a created row if these count.
+fn is_holder(cells: &CompactCells, t: u32, row: &Row, created: bool) -> bool
     requires { t < length cells.now }
     ensures { IsTrue result ↔ ((compact_state_of (cell_at cells.now t).state ≢ states.Idle)
-        × IsSome (change_of row.now)) }
+        × (IsSome (change_of row.now) ⊎ (IsTrue created × IsTrue row.now.created))) }
 {
-    is_target(cells, t) && has_change(row)
+    is_target(cells, t) && (has_change(row) || created && row.created)
 }
 
-/// Whether it is a target, and there is a change row or a created row.
-fn is_holder(cells: &CompactCells, t: u32, row: &Row) -> bool
-    requires { t < length cells.now }
-    ensures { IsTrue result ↔ ((compact_state_of (cell_at cells.now t).state ≢ states.Idle)
-        × (IsSome (change_of row.now) ⊎ IsTrue row.now.created)) }
-{
-    is_target(cells, t) && (row.created || has_change(row))
-}
-
-/// Marks the targets that depend on the name.
-pub(crate) fn enter_dependents(
-    graph: &Graph,
-    cells: &CompactCells,
-    rows: &PairRows,
-    n: u32,
-    marks: &mut NameSet,
-)
-    requires name { n < length cells.now }
-    requires fit { IsFit graph.now cells.now rows.now }
-    requires sized { size_of marks.old ≡ length cells.now }
-    ensures { Enters (λ t. Depends (records_in graph.now.tables cells.now rows.now) t n)
-        marks.old marks.new }
-{
-    let pairs = graph.pairs();
-    for &(_, place) in graph.pairs_on(n) {
-        let t = pairs[place as usize].0;
-        marks.enter_if(t, is_dependent(cells, t, &rows.row(place)));
-    }
-}
-
-/// Marks the targets with a row on the name.
+/// Marks the targets with a change row on the name, or with a created row if these count.
+#[inline]
 pub(crate) fn enter_holders(
     graph: &Graph,
     cells: &CompactCells,
     rows: &PairRows,
     n: u32,
+    created: bool,
     marks: &mut NameSet,
 )
     requires name { n < length cells.now }
     requires fit { IsFit graph.now cells.now rows.now }
     requires sized { size_of marks.old ≡ length cells.now }
     ensures { Enters (λ t. IsTarget (records_in graph.now.tables cells.now rows.now) t
-        × HasRow (records_in graph.now.tables cells.now rows.now) t n) marks.old marks.new }
+        × (HasChangeRow (records_in graph.now.tables cells.now rows.now) t n ⊎ (IsTrue created
+        × HasCreatedRow (records_in graph.now.tables cells.now rows.now) t n)))
+        marks.old marks.new }
 {
     let pairs = graph.pairs();
     for &(_, place) in graph.pairs_on(n) {
         let t = pairs[place as usize].0;
-        marks.enter_if(t, is_holder(cells, t, &rows.row(place)));
+        marks.enter_if(t, is_holder(cells, t, &rows.row(place), created));
     }
 }

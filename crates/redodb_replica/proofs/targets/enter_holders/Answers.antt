@@ -1,6 +1,6 @@
 use Rattle.std.proofs.Common.{◌⊎◌, ◌↔◌, ℕ, ◌<◌, IsSome, IsTrue, List, length, get_or, refl, sym, ap, subst, inl, inr, arith}
 use Rattle.std.proofs.lemmas.Bool.{false≢true}
-use Rattle.redodb_model.specs.OutOfDate.{IsTarget, HasRow}
+use Rattle.redodb_model.specs.OutOfDate.{IsTarget, HasChangeRow, HasCreatedRow}
 use Rattle.redodb_replica.specs.declared.rows.Row.{Row}
 use Rattle.redodb_replica.specs.PairRows.{change_of}
 use Rattle.redodb_replica.specs.Replicas.{records_in}
@@ -49,7 +49,8 @@ loop-place-preserved c =
     let place : ℕ = (get_or list c.loop-place.place-index (0, 0)).1 in
     let t : ℕ = (get_or c.pairs-pairs.result.now place (0, 0)).0 in
     let r = records_in c.args.graph.now.tables c.args.cells.now c.args.rows.now in
-    let P : Row → Type 0 = λ row. IsSome (change_of row) ⊎ IsTrue row.created in
+    let P : Row → Type 0 =
+    λ row. IsSome (change_of row) ⊎ (IsTrue c.args.created × IsTrue row.created) in
     on_more c.args.graph.now c.args.cells.now c.args.rows.now c.requires.fit c.args.n list
     c.pairs_on-place-items.ensures.those P c.loop-place.place-index t place
     c.is_holder.result c.loop-place-test.true refl
@@ -63,8 +64,12 @@ returns c =
     let list : List (ℕ × ℕ) = c.pairs_on-place-items.result.now in
     let r = records_in c.args.graph.now.tables c.args.cells.now c.args.rows.now in
     on_all c.args.graph.now c.args.cells.now c.args.rows.now c.requires.fit c.args.n list
-    c.pairs_on-place-items.ensures.those (λ row. IsSome (change_of row) ⊎ IsTrue row.created)
-    (λ t. IsTarget r t × HasRow r t c.args.n) c.loop-place.place-index
-    (λ none. elim none [ inl change ↦ false≢true change | inr made ↦ false≢true made ])
-    (has_row_is c.args.graph.now c.args.cells.now c.args.rows.now c.args.n)
+    c.pairs_on-place-items.ensures.those
+    (λ row. IsSome (change_of row) ⊎ (IsTrue c.args.created × IsTrue row.created))
+    (λ t. IsTarget r t
+    × (HasChangeRow r t c.args.n ⊎ (IsTrue c.args.created × HasCreatedRow r t c.args.n)))
+    c.loop-place.place-index
+    (λ none. elim none [ inl change ↦ false≢true change | inr made ↦ false≢true made.1 ])
+    (λ t.
+    has_row_is c.args.graph.now c.args.cells.now c.args.rows.now c.args.n t c.args.created)
     c.loop-place-test.false c.loop-place.invariant

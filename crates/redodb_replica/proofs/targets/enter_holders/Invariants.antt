@@ -8,6 +8,6 @@ use Rattle.redodb_replica.proofs.targets.enter_holders.Given as goal
 abbrev pub invariant-loop-place : goal.invariant-loop-place
 invariant-loop-place l =
     Enters (λ t. Holds l.graph l.cells l.rows l.n
-    (λ row. IsSome (change_of row) ⊎ IsTrue row.created) t
+    (λ row. IsSome (change_of row) ⊎ (IsTrue l.created × IsTrue row.created)) t
     × Contains (take l.place-index (targets_on l.graph.tables.pairs.items l.place-items)) t)
     l.fn.marks l.marks
