@@ -37,19 +37,12 @@ all_up n m [] up all = tt
 all_up n m (t ∷ names) up all = let a = all.0 in (omega arith, all_up n m names up all.1)
 
 reply_up : (n m : ℕ) (reply : Reply ℕ) → n ≤ m → IsReplyBelow n reply → IsReplyBelow m reply
-reply_up n m Okay up below = tt
-reply_up n m (Granted g) up below = tt
-reply_up n m (Busy g) up below = tt
 reply_up n m (Stale ns) up below = all_up n m ns up below
-reply_up n m (Stamped digest) up below = tt
 reply_up n m (replies.Ood ns) up below = all_up n m ns up below
 reply_up n m (replies.Targets ns) up below = all_up n m ns up below
 reply_up n m (replies.Sources ns) up below = all_up n m ns up below
-reply_up n m (Refused NotLocked) up below = tt
-reply_up n m (Refused Building) up below = tt
-reply_up n m (Refused NotBuilding) up below = tt
-reply_up n m (Refused Itself) up below = tt
 reply_up n m (Refused (Exists k)) up below = omega arith
+reply_up n m reply up below = tt
 
 lines_up : (n m : ℕ) (lines : List (histories.Line ℕ)) → n ≤ m
     → AllByRecursion (IsLineBelow n) lines → AllByRecursion (IsLineBelow m) lines

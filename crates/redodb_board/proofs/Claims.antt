@@ -51,9 +51,7 @@ module _ (p : PlanOf) (s : St) (o : Orderly p s) (id t : ℕ) (j : List Line) (s
 
   small₁ : n₁ < 4294967296
   small₁ = let a = few_grants p o.log o.plan o.legal u in
-      let b = claim-is in
-      let e = claim-small (c₁.state.locks.holder u) (c₁.state.locks.grants u) in
-      omega arith
+      omega (arith, claim-is, claim-small (c₁.state.locks.holder u) (c₁.state.locks.grants u))
 
   -- the word of u becomes m, and so do the claims
   claim-words : (m : ℕ) (k : Locks ℕ)

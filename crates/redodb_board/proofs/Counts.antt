@@ -22,9 +22,8 @@ total f (x ∷ xs) = f 0 + total (λ i. f (suc i)) xs
 pub total-same : (f g : ℕ → ℕ) (p : Scripts) → ((i : ℕ) → f i ≡ g i) → total f p ≡ total g p
 unfolding total
 total-same f g [] h = refl
-total-same f g (x ∷ xs) h = let a = h 0 in
-    let b = total-same (λ i. f (suc i)) (λ i. g (suc i)) xs (λ i. h (suc i)) in
-    omega arith
+total-same f g (x ∷ xs) h =
+    omega (arith, h 0, total-same (λ i. f (suc i)) (λ i. g (suc i)) xs (λ i. h (suc i)))
 
 -- one session has d more
 pub total-more : (f g : ℕ → ℕ) (d : ℕ) (p : Scripts) (s : ℕ) → s < length p → g s ≡ f s + d
@@ -45,9 +44,7 @@ total-more f g d (x ∷ xs) (suc s) h e n = let a = n 0 (λ q. omega arith) in
 pub total-few : (f : ℕ → ℕ) (p : Scripts) → ((i : ℕ) → f i ≤ 12288) → total f p ≤ 12288 * length p
 unfolding total
 total-few f [] h = omega arith
-total-few f (x ∷ xs) h = let a = h 0 in
-    let b = total-few (λ i. f (suc i)) xs (λ i. h (suc i)) in
-    omega arith
+total-few f (x ∷ xs) h = omega (arith, h 0, total-few (λ i. f (suc i)) xs (λ i. h (suc i)))
 
 -- if no session has more, there is no more in all
 pub total-le : (f g : ℕ → ℕ) (p : Scripts) → ((i : ℕ) → i < length p → f i ≤ g i)
@@ -109,10 +106,7 @@ rows-short (x ∷ xs) = let a = rows-short xs in let b = rows-small x.command in
 pub rows-few : (p : Scripts) → ((s : ℕ) → length (get_or p s []) ≤ 4096)
     → rows_in_all p ≤ 8192 * length p
 rows-few [] h = omega arith
-rows-few (x ∷ xs) h = let a = h 0 in
-    let c = rows-short x in
-    let b = rows-few xs (λ s. h (suc s)) in
-    omega arith
+rows-few (x ∷ xs) h = omega (arith, h 0, rows-short x, rows-few xs (λ s. h (suc s)))
 
 pub rows-push : (xs : List (Item ℕ)) (x : Item ℕ)
     → rows_in (xs ++ x ∷ []) ≡ rows_in xs + rows_for x.command

@@ -1,5 +1,6 @@
 -- Seats that look, are split and joined.
-use Rattle.std.proofs.Common.{◌≡◌, ◌≢◌, ℕ, zero, suc, ◌⊎◌, ltb, cond, List, [], ◌∷◌, ◌++◌, length, set, Bool, true, false, refl, sym, ap, ◌∙◌, subst, inl, inr, ⊎_elim}
+use Rattle.std.proofs.Common.{◌≡◌, ◌≢◌, ℕ, zero, suc, ◌⊎◌, ltb, cond, List, [], ◌∷◌, ◌++◌, length, set, Bool, true, false, not, refl, sym, ap, ◌∙◌, subst, inl, inr, ⊎_elim}
+use Rattle.std.specs.List.{filter}
 use Rattle.std.proofs.lemmas.Bool.{cases_Bool}
 use mathlib.Core.Logic.{dite}
 use mathlib.Core.Option.{some, none, some-injective, some-ne-none}
@@ -12,7 +13,7 @@ use Rattle.redodb_board.specs.Core.{Line, row_words}
 use Rattle.redodb_board.specs.Views.{Part, ViewOf, view}
 use Rattle.redodb_board.specs.Support.Views.{nobody}
 use Rattle.redodb_board.specs.Rule.{HasPart, Fits, Apart, AllStand, AllFit, Orderly, longer}
-use Rattle.redodb_board.specs.Support.Rule.{below, from, left_of, right_of, met}
+use Rattle.redodb_board.specs.Support.Rule.{left_of, right_of, met}
 use Rattle.redodb_board.specs.Support.Plays.{looked}
 use Rattle.redodb_board.proofs.Kept.{kept, fits_set, apart_set, set_there, begins_longer}
 
@@ -41,76 +42,39 @@ looks p slots id i v c same =
       ),
     ))
 
-has_left : (b : Bool) (x : Part) (xs ys : List Part) (s : ℕ) (j : List Line)
-    → HasPart (cond b (x ∷ xs) ys) s j
-    → ((b ≡ true) × (((x.0 ≡ s) × (x.1 ≡ j)) ⊎ HasPart xs s j)) ⊎ ((b ≡ false) × HasPart ys s j)
-has_left true x xs ys s j h = inl (refl, h)
-has_left false x xs ys s j h = inr (refl, h)
+-- the sessions of a cut are those of the view that pass a test
+abbrev passing : (ℕ → Bool) → List Part → List Part
+passing test ps = filter (λ (x : Part). test x.0) ps
 
-has_below : (m : ℕ) (ps : List Part) (s : ℕ) (j : List Line) → HasPart (below m ps) s j
-    → HasPart ps s j × (ltb s m ≡ true)
-has_below m [] s j h = absurd h
-has_below m (x ∷ xs) s j h = ⊎_elim
-    (λ (q : (ltb x.0 m ≡ true) × (((x.0 ≡ s) × (x.1 ≡ j)) ⊎ HasPart (below m xs) s j)). ⊎_elim
-    (λ (y : (x.0 ≡ s) × (x.1 ≡ j)). (inl y, subst (λ z. ltb z m ≡ true) y.0 q.0))
-    (λ y. let a = has_below m xs s j y in (inr a.0, a.1)) q.1)
-    (λ (q : (ltb x.0 m ≡ false) × HasPart (below m xs) s j). let a = has_below m xs s j q.1 in
-    (inr a.0, a.1))
-    (has_left (ltb x.0 m) x (below m xs) (below m xs) s j h)
+has_first_passing : (b : Bool) (x : Part) (xs : List Part) (s : ℕ) (j : List Line)
+    → HasPart (cond b (x ∷ xs) xs) s j
+    → ((b ≡ true) × ((x.0 ≡ s) × (x.1 ≡ j))) ⊎ HasPart xs s j
+has_first_passing true x xs s j (inl here) = inl (refl, here)
+has_first_passing true x xs s j (inr later) = inr later
+has_first_passing false x xs s j h = inr h
 
-has_right : (b : Bool) (x : Part) (xs ys : List Part) (s : ℕ) (j : List Line)
-    → HasPart (cond b ys (x ∷ xs)) s j
-    → ((b ≡ false) × (((x.0 ≡ s) × (x.1 ≡ j)) ⊎ HasPart xs s j)) ⊎ ((b ≡ true) × HasPart ys s j)
-has_right true x xs ys s j h = inr (refl, h)
-has_right false x xs ys s j h = inl (refl, h)
+has_passing : (test : ℕ → Bool) (ps : List Part) (s : ℕ) (j : List Line)
+    → HasPart (passing test ps) s j → HasPart ps s j × (test s ≡ true)
+has_passing test [] s j h = absurd h
+has_passing test (x ∷ xs) s j h =
+    elim (has_first_passing (test x.0) x (passing test xs) s j h) [
+      | inl y ↦ (inl y.1, subst (λ n. test n ≡ true) y.1.0 y.0)
+      | inr y ↦ let a = has_passing test xs s j y in (inr a.0, a.1)
+    ]
 
-has_from : (m : ℕ) (ps : List Part) (s : ℕ) (j : List Line) → HasPart (from m ps) s j
-    → HasPart ps s j × (ltb s m ≡ false)
-has_from m [] s j h = absurd h
-has_from m (x ∷ xs) s j h = ⊎_elim
-    (λ (q : (ltb x.0 m ≡ false) × (((x.0 ≡ s) × (x.1 ≡ j)) ⊎ HasPart (from m xs) s j)). ⊎_elim
-    (λ (y : (x.0 ≡ s) × (x.1 ≡ j)). (inl y, subst (λ z. ltb z m ≡ false) y.0 q.0))
-    (λ y. let a = has_from m xs s j y in (inr a.0, a.1)) q.1)
-    (λ (q : (ltb x.0 m ≡ true) × HasPart (from m xs) s j). let a = has_from m xs s j q.1 in
-    (inr a.0, a.1))
-    (has_right (ltb x.0 m) x (from m xs) (from m xs) s j h)
-
--- each session of a view is on one side of a cut
-into_left : (b : Bool) (x : Part) (xs ys : List Part) (s : ℕ) (j : List Line)
-    → ((b ≡ true) × ((x.0 ≡ s) × (x.1 ≡ j))) ⊎ (HasPart xs s j × HasPart ys s j)
-    → HasPart (cond b (x ∷ xs) ys) s j
-into_left true x xs ys s j (inl here) = inl here.1
-into_left true x xs ys s j (inr later) = inr later.0
-into_left false x xs ys s j (inl here) = absurd (let e = here.0 in cc)
-into_left false x xs ys s j (inr later) = later.1
-
-into_right : (b : Bool) (x : Part) (xs ys : List Part) (s : ℕ) (j : List Line)
-    → ((b ≡ false) × ((x.0 ≡ s) × (x.1 ≡ j))) ⊎ (HasPart xs s j × HasPart ys s j)
-    → HasPart (cond b ys (x ∷ xs)) s j
-into_right true x xs ys s j (inl here) = absurd (let e = here.0 in cc)
-into_right true x xs ys s j (inr later) = later.1
-into_right false x xs ys s j (inl here) = inl here.1
-into_right false x xs ys s j (inr later) = inr later.0
-
-is_below : (m : ℕ) (ps : List Part) (s : ℕ) (j : List Line) → ltb s m ≡ true → HasPart ps s j
-    → HasPart (below m ps) s j
-is_below m [] s j side h = h
-is_below m (x ∷ xs) s j side (inl here) =
-    into_left (ltb x.0 m) x (below m xs) (below m xs) s j
-    (inl (ap (λ n. ltb n m) here.0 ∙ side, here))
-is_below m (x ∷ xs) s j side (inr later) =
-    let rest = is_below m xs s j side later in
-    into_left (ltb x.0 m) x (below m xs) (below m xs) s j (inr (rest, rest))
-
-is_from : (m : ℕ) (ps : List Part) (s : ℕ) (j : List Line) → ltb s m ≡ false → HasPart ps s j
-    → HasPart (from m ps) s j
-is_from m [] s j side h = h
-is_from m (x ∷ xs) s j side (inl here) =
-    into_right (ltb x.0 m) x (from m xs) (from m xs) s j
-    (inl (ap (λ n. ltb n m) here.0 ∙ side, here))
-is_from m (x ∷ xs) s j side (inr later) =
-    let rest = is_from m xs s j side later in
-    into_right (ltb x.0 m) x (from m xs) (from m xs) s j (inr (rest, rest))
+is_passing : (test : ℕ → Bool) (ps : List Part) (s : ℕ) (j : List Line) → test s ≡ true
+    → HasPart ps s j → HasPart (passing test ps) s j
+is_passing test [] s j passes h = h
+is_passing test (x ∷ xs) s j passes (inl here) =
+    subst (λ b. HasPart (cond b (x ∷ passing test xs) (passing test xs)) s j)
+    (sym (ap test here.0 ∙ passes)) (inl here)
+is_passing test (x ∷ xs) s j passes (inr later) =
+    after (test x.0) (is_passing test xs s j passes later)
+  where
+    after : (b : Bool) → HasPart (passing test xs) s j
+        → HasPart (cond b (x ∷ passing test xs) (passing test xs)) s j
+    after true h = inr h
+    after false h = h
 
 -- and so each session is in a view after the cut
 stand_cut : (n : ℕ) (views : List ViewOf) (id m : ℕ) (v : ViewOf) → get_elem? views id ≡ some v
@@ -129,14 +93,14 @@ stand_cut n views id m v me stand t less =
         left_of m v,
         j,
         at_longer lefts (right ∷ []) id (left_of m v) (set_there views id v (left_of m v) me),
-        is_below m v.parts t j low here,
+        is_passing (λ n. ltb n m) v.parts t j low here,
       )
       | inr high ↦ (
         length lefts,
         right,
         j,
         at_last lefts right (length lefts) refl,
-        is_from m v.parts t j high here,
+        is_passing (λ n. not (ltb n m)) v.parts t j (ap not high) here,
       )
     ])
     (λ ne. (
@@ -177,13 +141,13 @@ splits p id m v s o me =
     let f = o.fits id v me in
     let l : Fits p o.log (left_of m v) =
     record {
-      own = λ t j h. f.own t j (has_below m v.parts t j h).0;
+      own = λ t j h. f.own t j (has_passing (λ n. ltb n m) v.parts t j h).0;
       seen = f.seen;
       also = f.also;
     } in
     let r : Fits p o.log (right_of m v) =
     record {
-      own = λ t j h. f.own t j (has_from m v.parts t j h).0;
+      own = λ t j h. f.own t j (has_passing (λ n. not (ltb n m)) v.parts t j h).0;
       seen = f.seen;
       also = f.also;
     } in
@@ -206,19 +170,20 @@ splits p id m v s o me =
       apart =
           apart_push views (right_of m v)
           (apart_set s.views id v (left_of m v) me
-          (λ t h has. (h, (has_below m v.parts t h has).0)) o.apart)
-          (λ n u t j h e hu hw. let b = has_from m v.parts t h hw in ⊎_elim
-          (λ (q : (n ≡ id) × (left_of m v ≡ u)). let a = has_below m v.parts t j
+          (λ t h has. (h, (has_passing (λ n. ltb n m) v.parts t h has).0)) o.apart)
+          (λ n u t j h e hu hw. let b = has_passing (λ n. not (ltb n m)) v.parts t h hw in ⊎_elim
+          (λ (q : (n ≡ id) × (left_of m v ≡ u)). let a = has_passing (λ n. ltb n m) v.parts t j
           (subst (λ (z : ViewOf). HasPart z.parts t j) (sym q.1) hu) in
-          off (sym a.1 ∙ b.1))
+          off (ltb t m) a.1 b.1)
           (λ (q : (n ≢ id) × (get_elem? s.views n ≡ some u)). q.0
           (o.apart n id u v t j h q.1 me hu b.0))
           (at_set s.views id n (left_of m v) u e));
       stand = stand_cut (length p.scripts) s.views id m v me o.stand;
     }
   where
-    off : true ≡ false → ⊥
-    off e = cc
+    off : (b : Bool) → b ≡ true → not b ≡ true → ⊥
+    off true e f = cc
+    off false e f = cc
 
 has_append : (xs ys : List Part) (s : ℕ) (j : List Line) → HasPart (xs ++ ys) s j
     → HasPart xs s j ⊎ HasPart ys s j

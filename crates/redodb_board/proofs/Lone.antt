@@ -53,6 +53,4 @@ module _ (v : ViewOf) (s : ℕ) (j : List Line) (told : Told v) (lone : Lone v s
       one_left v.plan told.log told.plan told.legal s n here
       (ap (next v.plan s) part_is ∙ is-next) asked
       (ap (λ ls. own_way ls n.command) part_is ∙ in-row) in
-      let seen = ap length told.fits.seen.1 in
-      let split = length-append v.seen told.fits.seen.0 in
-      omega arith
+      omega (arith, ap length told.fits.seen.1, length-append v.seen told.fits.seen.0)

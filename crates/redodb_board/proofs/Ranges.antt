@@ -1,5 +1,5 @@
 -- Fresh seats: ranges of sessions, and how they are cut.
-use Rattle.std.proofs.Common.{◌≡◌, ◌≢◌, ℕ, zero, suc, ◌+◌, ◌-◌, ◌<◌, ◌≤◌, cond, lt-ltb, le-ltb, List, [], ◌∷◌, ◌++◌, length, get_or, refl, sym, ap, ◌∙◌, subst, inl, inr, ⊎_elim, arith}
+use Rattle.std.proofs.Common.{◌≡◌, ◌≢◌, ℕ, zero, suc, ◌+◌, ◌-◌, ◌<◌, ◌≤◌, lt-ltb, le-ltb, List, [], ◌∷◌, ◌++◌, length, get_or, refl, sym, ap, ◌∙◌, subst, inl, inr, ⊎_elim, arith}
 use Rattle.std.proofs.lemmas.List.{get_or_past}
 use mathlib.Core.Logic.{dite}
 use mathlib.Core.Option.{some, some-injective, some-ne-none}
@@ -36,43 +36,34 @@ fresh_fits p = range_fits p 0 (length p.scripts)
 pub below-range : (m n k : ℕ) → n ≤ m → m ≤ n + k → below m (range n k) ≡ range n (m - n)
 below-range m n zero a b = ap (range n) (let e : 0 ≡ m - n = omega arith in e)
 below-range m n (suc k) a b = dite (dec_lt n m)
-    (λ l. ap (λ t. cond t ((n, []) ∷ below m (range (n + 1) k)) (below m (range (n + 1) k)))
-    (lt-ltb n m l)
-    ∙ ap (λ (t : List Part). (n, []) ∷ t) (below-range m (n + 1) k (omega arith) (omega arith))
-    ∙ ap (range n) (let e : suc (m - (n + 1)) ≡ m - n = omega arith in e))
-    (λ g. let same : n ≡ m = omega arith in
-    ap (λ t. cond t ((n, []) ∷ below m (range (n + 1) k)) (below m (range (n + 1) k)))
-    (le-ltb n m (omega arith))
-    ∙ below-all m (n + 1) k (omega arith)
-    ∙ ap (range n) (let e : 0 ≡ m - n = omega arith in e))
+    (λ l. rw (lt-ltb n m l)
+    (ap (λ (t : List Part). (n, []) ∷ t) (below-range m (n + 1) k (omega arith) (omega arith))
+    ∙ ap (range n) (let e : suc (m - (n + 1)) ≡ m - n = omega arith in e)))
+    (λ g. rw (le-ltb n m (omega arith))
+    (below-all m (n + 1) k (omega arith)
+    ∙ ap (range n) (let e : 0 ≡ m - n = omega arith in e)))
   where
     below-all : (m n k : ℕ) → m ≤ n → below m (range n k) ≡ []
     below-all m n zero a = refl
-    below-all m n (suc k) a =
-        ap (λ t. cond t ((n, []) ∷ below m (range (n + 1) k)) (below m (range (n + 1) k)))
-        (le-ltb n m a)
-        ∙ below-all m (n + 1) k (omega arith)
+    below-all m n (suc k) a = rw (le-ltb n m a) (below-all m (n + 1) k (omega arith))
 
 pub from-range : (m n k : ℕ) → n ≤ m → m ≤ n + k → from m (range n k) ≡ range m (n + k - m)
 from-range m n zero a b = ap (range m) (let e : 0 ≡ n + 0 - m = omega arith in e)
 from-range m n (suc k) a b = dite (dec_lt n m)
-    (λ l. ap (λ t. cond t (from m (range (n + 1) k)) ((n, []) ∷ from m (range (n + 1) k)))
-    (lt-ltb n m l)
-    ∙ from-range m (n + 1) k (omega arith) (omega arith)
-    ∙ ap (range m) (let e : n + 1 + k - m ≡ n + suc k - m = omega arith in e))
+    (λ l. rw (lt-ltb n m l)
+    (from-range m (n + 1) k (omega arith) (omega arith)
+    ∙ ap (range m) (let e : n + 1 + k - m ≡ n + suc k - m = omega arith in e)))
     (λ g. let same : n ≡ m = omega arith in
-    ap (λ t. cond t (from m (range (n + 1) k)) ((n, []) ∷ from m (range (n + 1) k)))
-    (le-ltb n m (omega arith))
-    ∙ ap (λ (t : List Part). (n, []) ∷ t) (from-all m (n + 1) k (omega arith))
+    rw (le-ltb n m (omega arith))
+    (ap (λ (t : List Part). (n, []) ∷ t) (from-all m (n + 1) k (omega arith))
     ∙ ap (λ x. range x (suc k)) same
-    ∙ ap (range m) (let e : suc k ≡ n + suc k - m = omega arith in e))
+    ∙ ap (range m) (let e : suc k ≡ n + suc k - m = omega arith in e)))
   where
     from-all : (m n k : ℕ) → m ≤ n → from m (range n k) ≡ range n k
     from-all m n zero a = refl
     from-all m n (suc k) a =
-        ap (λ t. cond t (from m (range (n + 1) k)) ((n, []) ∷ from m (range (n + 1) k)))
-        (le-ltb n m a)
-        ∙ ap (λ (t : List Part). (n, []) ∷ t) (from-all m (n + 1) k (omega arith))
+        rw (le-ltb n m a)
+        (ap (λ (t : List Part). (n, []) ∷ t) (from-all m (n + 1) k (omega arith)))
 
 -- adjacent ranges
 pub range-append : (n a b : ℕ) → range n a ++ range (n + a) b ≡ range n (a + b)

@@ -11,7 +11,7 @@ use Rattle.redodb_model.specs.Command.{Command, Item, Lock, asked_lock}
 use Rattle.redodb_model.specs.Reply.{Reply}
 use Rattle.redodb_model.specs.Step.{Answers, after, lock_reply}
 use Rattle.redodb_model.specs.History.{LegalFrom}
-use Rattle.redodb_model.specs.Placed.{Place, Row, Granted, Busy, Released, Fits, line_of, part_of, is_claim, is_row, rows_in, IsPlacedAfter}
+use Rattle.redodb_model.specs.Placed.{Place, Row, Fits, line_of, part_of, is_claim, is_row, rows_in, IsPlacedAfter}
 use Rattle.redodb_model.specs.Journals.{Numbered, numbered, next_of, IsJournal}
 use Rattle.redodb_history_laws.proofs.Closed.{all_tell}
 use Rattle.redodb_history_laws.proofs.Own.{part_of-own, part_of-other}
@@ -49,9 +49,7 @@ asked_at : (naming : Naming ℕ) (state : State ℕ) (s : ℕ) (place : Place �
     → is_row place ≡ true → asked_lock command ≡ None
 asked_at naming state s (Row r) command reply answers fits is =
     no_lock naming state s command reply answers fits
-asked_at naming state s (Granted t g) command reply answers fits is = absurd (false≢true is)
-asked_at naming state s (Busy t g) command reply answers fits is = absurd (false≢true is)
-asked_at naming state s (Released t g) command reply answers fits is = absurd (false≢true is)
+asked_at naming state s place command reply answers fits is = absurd (false≢true is)
 
 module _ (p : PlanOf) (plan : IsPlan p) where
   all_asked : (state : State ℕ) (before lines : List Line)

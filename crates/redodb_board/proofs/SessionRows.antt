@@ -47,9 +47,7 @@ rows_split [] = refl
 rows_split (item ∷ script) =
     let one = sum_by-cons (λ (x : Item ℕ). one_row x.command) item script in
     let start = sum_by-cons (λ (x : Item ℕ). cond (is_start x.command) 1 0) item script in
-    let both = rows_both item.command in
-    let rest = rows_split script in
-    omega arith
+    omega (arith, rows_both item.command, rows_split script)
 
 module _ (script : List (Item ℕ)) where
   own_rows : (lines : List Line) → RowsAre script lines

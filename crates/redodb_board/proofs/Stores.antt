@@ -29,10 +29,7 @@ get_or_begins : (all xs rest : List ℕ) (n : ℕ) → all ≡ (xs ++ n ∷ []) 
     → (get_or all (length xs) 0 ≡ n) × (length xs < length all)
 get_or_begins all xs rest n e = (
   ap (λ l. get_or l (length xs) 0) e ∙ seam xs rest n,
-  let a = ap length e in
-      let b = length-append (xs ++ n ∷ []) rest in
-      let c = length_push xs n in
-      omega arith,
+  omega (arith, ap length e, length-append (xs ++ n ∷ []) rest, length_push xs n),
 )
   where
     seam : (xs rest : List ℕ) (n : ℕ) → get_or ((xs ++ n ∷ []) ++ rest) (length xs) 0 ≡ n
@@ -54,21 +51,14 @@ pub few_seen : (v : ViewOf) → Told v → length v.seen ≤ 524288
 few_seen v told =
     let a = few v.plan told.log told.plan told.legal in
     let b = few_rows v.plan told.plan in
-    let d = ap length told.fits.seen.1 in
-    let e = length-append v.seen told.fits.seen.0 in
-    omega arith
+    omega (arith, ap length told.fits.seen.1, length-append v.seen told.fits.seen.0)
 
 pub lags_few : (p : PlanOf) (v : ViewOf) (replica : ReplicaOf) (pending : Option ℕ) → Told v
     → Lags p replica pending v.seen → replica.applied + 1 < 2 ^ 32
-lags_few p v replica None told lags = let a = few_seen v told in
-    let b = ap length lags.behind in
-    let c = lags.applied in
-    omega arith
-lags_few p v replica (Some n) told lags = let a = few_seen v told in
-    let b = ap length lags.behind in
-    let d = length_push lags.words n in
-    let c = lags.applied in
-    omega arith
+lags_few p v replica None told lags =
+    omega (arith, few_seen v told, ap length lags.behind, lags.applied)
+lags_few p v replica (Some n) told lags =
+    omega (arith, few_seen v told, ap length lags.behind, length_push lags.words n, lags.applied)
 
 module _ (p : PlanOf) (old new : ReplicaOf) (seen : List ℕ)
     (count : count_of new ≡ count_of old) (graph : new.graph ≡ old.graph)
@@ -87,10 +77,7 @@ module _ (p : PlanOf) (old new : ReplicaOf) (seen : List ℕ)
         ∙ ap (λ r. after_row (rows.naming_of p) (script_of p) r (decoded n)) lags.records
         ∙ sym (replay-push p lags.words n)
         ∙ ap (replay p) (sym lags.behind);
-    applied = let a = lags.applied in
-        let b = ap length lags.behind in
-        let d = length_push lags.words n in
-        omega arith;
+    applied = omega (arith, lags.applied, ap length lags.behind, length_push lags.words n);
     count = count ∙ lags.count;
     graph = subst (IsGraphOf p) (sym graph) lags.graph;
   }
@@ -109,10 +96,7 @@ module _ (p : PlanOf) (old new : ReplicaOf) (seen : List ℕ)
         ∙ ap (λ r. records_after (rows.naming_of p) r s h x)
         (lags.records ∙ ap (replay p) (sym lags.behind))
         ∙ sym tells;
-    applied = let a = lags.applied in
-        let b = ap length lags.behind in
-        let d = length_push seen w in
-        omega arith;
+    applied = omega (arith, lags.applied, ap length lags.behind, length_push seen w);
     count = count ∙ lags.count;
     graph = subst (IsGraphOf p) (sym graph) lags.graph;
   }

@@ -3,8 +3,7 @@ use Rattle.std.proofs.Common.{◌≡◌, ℕ, Bool, true, false, cond, not, ◌&
 use Rattle.std.specs.Prelude.{MatchOption}
 use Rattle.std.specs.declared.cmp.Ordering.{Ordering}
 use Rattle.redodb_model.specs.Names.{numbers}
-use Rattle.redodb_model.specs.State.{State, TargetState, Idle, Building, Built, target_state, is_building}
-use Rattle.redodb_model.specs.State as states
+use Rattle.redodb_model.specs.State.{State, TargetState, Building, target_state, is_building}
 use Rattle.redodb_model.specs.Command.{Command, Lock, Unlock, asked_lock}
 use Rattle.redodb_model.specs.Reply.{Refusal, NotLocked, Reply, Okay, Refused}
 use Rattle.redodb_model.specs.Reply as replies
@@ -35,19 +34,15 @@ module _ (order : ℕ → ℕ → Ordering) (st : State ℕ) (s : ℕ) where
   -- the builder of a building target holds it
   free_rests : (t : ℕ) (a : TargetState) → target_state st.records t ≡ a → BuildersHold st
       → st.locks.holder t ≡ Some s → is_built_by s a ≡ false → is_building a ≡ false
-  free_rests t Idle is h own isnt = refl
   free_rests t (Building b) is h own isnt = let f = h.held t b is in
       let e : Some b ≡ Some s = sym f ∙ own in
       let g : eqb b s ≡ true = eq-eqb b s (cc) in
       absurd (cc)
-  free_rests t Built is h own isnt = refl
-  free_rests t states.Failed is h own isnt = refl
+  free_rests t state is h own isnt = refl
 
   builds_so : (a : TargetState) → is_built_by s a ≡ true → is_building a ≡ true
-  builds_so Idle e = cc
   builds_so (Building b) e = refl
-  builds_so Built e = cc
-  builds_so states.Failed e = cc
+  builds_so state e = cc
 
   -- an unlock that is refused
   refused : (t : ℕ) (f : Refusal ℕ) → verdict (Unlock t) ≡ Some f → Goes (Unlock t) row

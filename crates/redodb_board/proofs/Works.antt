@@ -208,7 +208,7 @@ module _ (p : PlanOf) (b : Board) (w w' : Worker) (n : Numbered ℕ) (reply : Re
     (no-row : own_way (journal_of p w) n.command ≢ row) (still : (m : ℕ) → past place m ≡ m) where
   spent₁ : w'.tries ≡ past place (rows_up_to 0 (journal_of p w))
   spent₁ =
-      tries ∙ k.works.spent (needs-none p w n is-next no-row)
+      tries ∙ k.works.spent (needs-none p w is-next no-row)
       ∙ sym (still (rows_up_to 0 (journal_of p w)))
 
   lags₁ : Lags p w'.replica w'.pending (seen_by w)
@@ -268,10 +268,7 @@ module _ (p : PlanOf) (b : Board) (w w' : Worker) (found : ℕ) (k : WorksAt p b
       room =
           subst (λ (x : ℕ × ℕ). room_of (script_of p x.0) ≤ x.1)
           (λ i. (sym session i, vec_capacity (sym same i))) k.works.room;
-      tries = let a = k.works.tries in
-          let b = ap length kept.saw in
-          let d = length_push (seen_by w) found in
-          omega arith;
+      tries = omega (arith, k.works.tries, ap length kept.saw, length_push (seen_by w) found);
       own =
           subst (λ (x : List Hold × List Line). Says p.names x.0 (map line_of x.1))
           (λ i. (sym own-same i, sym journal-same i)) k.works.own;
@@ -319,6 +316,6 @@ pub made_less : (p : PlanOf) (old new : Worker) → Works p old → Made p old n
     → room_of (script_of p (session_of old)) - length (journal_of p new)
     < room_of (script_of p (session_of old)) - length (journal_of p old)
 made_less p old new k made =
-    let fits = next_fits p old _ k made.next in
+    let fits = next_fits k made.next in
     let grown = ap length made.grown ∙ length_push (journal_of p old) made.line in
     omega arith

@@ -1,9 +1,8 @@
 ghost use Rattle.std.specs.Prelude.{◌≡◌, ◌+◌, length, IfOk};
 ghost use Rattle.std.specs.Mem.Slots.{slots_items, slots_len, IsFull};
 ghost use Rattle.redodb_board.specs.Rows.{rows_of};
-ghost use Rattle.redodb_board.specs.Shown.{plan_of, parts_of};
+ghost use Rattle.redodb_board.specs.Shown.{plan_of, parts_of, IsForAll};
 ghost use Rattle.redodb_board.specs.Kept.{IsBoardOf, SitsAt, IsFreshOf};
-ghost use Rattle.redodb_board.specs.Shown.{IsForAll};
 ghost use Rattle.redodb_board.specs.Outcomes.{Closes, AreLastWords};
 
 use crate::plan::{rows, sessions};

@@ -1,5 +1,4 @@
-ghost use Rattle.std.specs.Prelude.{◌≡◌, ◌+◌, ◌<◌, [], ◌++◌, ◌∷◌, length, IfOk, IfErr, IsOk};
-ghost use Rattle.std.specs.Prelude.{OnErr, MatchBool, None, IfSome, option_map, vec_len, vec_capacity};
+ghost use Rattle.std.specs.Prelude.{◌≡◌, ◌+◌, ◌<◌, [], ◌++◌, ◌∷◌, length, IfOk, IfErr, IsOk, OnErr, MatchBool, None, IfSome, option_map, vec_len, vec_capacity};
 ghost use Rattle.std.specs.Borrow.{sem};
 ghost use mir.Syntax.{named};
 ghost use Rattle.std.specs.Option.{IfNone};
@@ -9,10 +8,8 @@ ghost use Rattle.redodb_journal.specs.Plans.{PlanOf, script_of};
 ghost use Rattle.redodb_journal.specs.Journals.{command_by};
 ghost use Rattle.redodb_board.specs.declared.board.Board.{Board as BoardOf};
 ghost use Rattle.redodb_board.specs.contracts.worker.Worker.{the_row};
-ghost use Rattle.redodb_board.specs.Shown.{session_of, journal_of, tries_of, seen_by, first_of};
-ghost use Rattle.redodb_board.specs.Shown.{end_of};
+ghost use Rattle.redodb_board.specs.Shown.{session_of, journal_of, tries_of, seen_by, first_of, end_of, entries_of, NeedsNoRow, IsAtEnd, IsLast};
 ghost use Rattle.redodb_board.specs.Kept.{IsBoardOf, IsSeatOf, SitsAt, IsFresh, Works, WorksAt};
-ghost use Rattle.redodb_board.specs.Shown.{entries_of, NeedsNoRow, IsAtEnd, IsLast};
 ghost use Rattle.redodb_board.specs.Support.Shown.{IsNextBy};
 ghost use Rattle.redodb_board.specs.Outcomes.{Made, Waits, Leaves, Rests, Stepped};
 ghost use Rattle.redodb_board.specs.Support.Steps.{Enters};

@@ -1,5 +1,4 @@
-ghost use Rattle.std.specs.Prelude.{◌≡◌, ◌+◌, ◌^◌, ◌<◌, false, None, IsOk, IsTrue, IsFalse, IfOk, OnOk, OnErr};
-ghost use Rattle.std.specs.Prelude.{MatchBool, length};
+ghost use Rattle.std.specs.Prelude.{◌≡◌, ◌+◌, ◌^◌, ◌<◌, false, None, IsOk, IsTrue, IsFalse, IfOk, OnOk, OnErr, MatchBool, length};
 ghost use Rattle.redodb_commands.specs.Meaning.{command_of, reply_of};
 ghost use Rattle.redodb_records.specs.Rows.{by_number};
 ghost use Rattle.redodb_graph.specs.Graphs.{IsGraphOf};

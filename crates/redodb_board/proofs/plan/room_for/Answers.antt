@@ -33,10 +33,7 @@ pub overflow_add-room : goal.overflow_add-room
 overflow_add-room c =
     let a = two_most (command_of c.item-item.result.command) in
     let b = c.entries_for-room.ensures in
-    let d = c.loop-item.invariant.1 in
-    let e = c.loop-item-test.true in
-    let f = c.requires in
-    omega arith
+    omega (arith, c.loop-item.invariant.1, c.loop-item-test.true, c.requires)
 
 pub loop-item-preserved : goal.loop-item-preserved
 loop-item-preserved c =

@@ -9,11 +9,7 @@ use Rattle.redodb_board.proofs.plan.rows_in.Goals as goal
 pub overflow_add-rows : goal.overflow_add-rows
 overflow_add-rows c =
     let a = rows-small (command_of c.item-item.result.command) in
-    let b = c.needs-rows.ensures in
-    let d = c.loop-item.invariant.1 in
-    let e = c.loop-item-test.true in
-    let f = c.requires in
-    omega arith
+    omega (arith, c.needs-rows.ensures, c.loop-item.invariant.1, c.loop-item-test.true, c.requires)
 
 pub loop-item-preserved : goal.loop-item-preserved
 loop-item-preserved c =

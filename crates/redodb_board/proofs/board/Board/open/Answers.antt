@@ -8,17 +8,13 @@ use Rattle.redodb_board.proofs.Ranges.{opens}
 use Rattle.redodb_board.proofs.board.Board.open.Goals as goal
 
 pub overflow_add-rows : goal.overflow_add-rows
-overflow_add-rows c = let a = few_rows c.args.plan.now c.rows-rows.ensures.plan in
-    let b = c.rows-rows.ensures.count in
-    omega arith
+overflow_add-rows c =
+    omega (arith, few_rows c.args.plan.now c.rows-rows.ensures.plan, c.rows-rows.ensures.count)
 
 pub overflow_add-rows-2 : goal.overflow_add-rows-2
 overflow_add-rows-2 c =
     let a = few_rows c.args.plan.now c.rows-rows.ensures.plan in
-    let b = c.rows-rows.ensures.count in
-    let d = c.len.ensures.names.few in
-    let e = c.len.ensures.count in
-    omega arith
+    omega (arith, c.rows-rows.ensures.count, c.len.ensures.names.few, c.len.ensures.count)
 
 pub of_words-requires : goal.of_words-requires
 of_words-requires c =

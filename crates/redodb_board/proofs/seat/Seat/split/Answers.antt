@@ -1,8 +1,7 @@
 use Rattle.std.proofs.Common.{◌≡◌, ◌+◌, ◌-◌, sym, ap, ◌∙◌, arith, refl, []}
-use Rattle.redodb_board.specs.Views.{ViewOf}
+use Rattle.redodb_board.specs.Views.{ViewOf, view}
 use Rattle.redodb_board.specs.Rule.{range}
 use Rattle.redodb_board.specs.Support.Rule.{left_of, right_of}
-use Rattle.redodb_board.specs.Views.{view}
 use Rattle.redodb_board.proofs.Ranges.{below-range, from-range}
 use Rattle.redodb_board.proofs.seat.Seat.split.Goals as goal
 

@@ -21,7 +21,7 @@ pub apply_word-requires-clause-word : goal.apply_word-requires-clause-word
 apply_word-requires-clause-word c =
     let p = c.args.plan.now in
     let w = c.args.self.now in
-    (plan_is p w c.requires, word_at p w c.in-Some.word c.requires c.in-Some.is)
+    (plan_is c.requires, word_at p w c.in-Some.word c.requires c.in-Some.is)
 
 pub apply_word-requires-clause-applied : goal.apply_word-requires-clause-applied
 apply_word-requires-clause-applied c =

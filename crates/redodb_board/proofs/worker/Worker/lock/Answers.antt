@@ -16,12 +16,10 @@ use Rattle.redodb_board.proofs.worker.Worker.lock.Goals as goal
 use Rattle.redodb_board.proofs.worker.Worker.lock.Goals.{After-enter}
 
 pub overflow_add-word : goal.overflow_add-word
-overflow_add-word c = let a = few_words c.args.plan.now c.args.board.now c.requires.belongs.0 in
-    omega arith
+overflow_add-word c = let a = few_words c.requires.belongs.0 in omega arith
 
 pub overflow_add-word-2 : goal.overflow_add-word-2
-overflow_add-word-2 c = let a = few_words c.args.plan.now c.args.board.now c.requires.belongs.0 in
-    omega arith
+overflow_add-word-2 c = let a = few_words c.requires.belongs.0 in omega arith
 
 still : (t w m : ℕ) → past (lock_place t w) m ≡ m
 still t w m = by (eqb (w % 2) 0)
@@ -41,8 +39,7 @@ fetch_or-found-requires c =
     let k = c.requires.belongs.1 in
     let u : ℕ = c.args.target in
     let n : Numbered ℕ = record { number = c.args.number; command = Lock u } in
-    let low : u < length p.names =
-    target_low p w n u k.works c.requires.command.next refl in (
+    let low : u < length p.names = target_low u k.works c.requires.command.next refl in (
       k.table,
       (let x = b.words in let y = b.rows in omega arith),
       locks_as p c.args.board.now.table.shared.key c.args.board.now.table.shared.table_id.slots
@@ -88,13 +85,7 @@ pub returns-clause-made : goal.returns-clause-made
 returns-clause-made c = (done (goal.at.returns-clause-made c).After-enter).1
 
 pub enter-requires-clause-room : goal.enter-requires-clause-room
-enter-requires-clause-room c =
-    let u : ℕ = c.args.target in
-    let n : Numbered ℕ = record { number = c.args.number; command = Lock u } in
-    room_next c.args.plan.now c.args.self.now n c.requires.belongs.1.works c.requires.command.next
+enter-requires-clause-room c = room_next c.requires.belongs.1.works c.requires.command.next
 
 pub enter-requires-clause-names : goal.enter-requires-clause-names
-enter-requires-clause-names c =
-    let u : ℕ = c.args.target in
-    let n : Numbered ℕ = record { number = c.args.number; command = Lock u } in
-    own_below c.args.plan.now c.args.self.now n c.requires.belongs.1.works c.requires.command.next
+enter-requires-clause-names c = own_below c.requires.belongs.1.works c.requires.command.next

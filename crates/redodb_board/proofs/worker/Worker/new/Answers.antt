@@ -54,10 +54,7 @@ returns-clause-works c board sits =
             (ap (λ (v : ViewOf). v.also) (sym is) i));
         slots = f.plan.0.slots;
         session = subst (λ k. k < length p.scripts) (sym at) f.plan.1;
-        room = let x = e.capacity in
-            let y = ap room_of c.items.ensures.items in
-            let z = c.room_for.ensures in
-            omega arith;
+        room = omega (arith, e.capacity, ap room_of c.items.ensures.items, c.room_for.ensures);
         tries = ap length seen;
         own =
             subst (λ (x : List Text × List Line). Says x.0 c.in-Ok-new.own (map line_of x.1))

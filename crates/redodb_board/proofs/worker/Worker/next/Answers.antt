@@ -28,7 +28,7 @@ next_step-requires-clause-below c =
     All-from_recursion (λ (entry : Entry). IsBelow (length p.names) (command_told script entry))
     w.entries.items
     (told_each (λ (line : Line). IsBelow (length p.names) line.command) w.session script
-    w.entries.items (lines_names p w c.requires)) in
+    w.entries.items (lines_names c.requires)) in
     subst
     (λ (x : (List Text × List (commands.Item ℕ)) × List Entry).
     All (λ (entry : Entry). IsBelow (length x.0.0) (command_told x.0.1 entry)) x.1)
@@ -44,5 +44,5 @@ next_step-requires-clause-numbers c =
     let all : All (λ (entry : Entry). entry.number < 4294967295) w.entries.items =
     All-from_recursion (λ (entry : Entry). entry.number < 4294967295) w.entries.items
     (told_each (λ (line : Line). line.number < 4294967295) w.session (script_of p w.session)
-    w.entries.items (lines_numbers p w c.requires)) in
+    w.entries.items (lines_numbers c.requires)) in
     subst (All (λ (entry : Entry). entry.number < 4294967295)) (sym c.deref.ensures.value) all

@@ -23,7 +23,7 @@ load-word-requires g c =
     let n : Numbered ℕ =
     record { number = c.args.next.now.number; command = command_of c.args.command.now } in
     let is-next = c.requires.command.next in
-    let near = row_next p w n k.works is-next c.requires.way in (
+    let near = row_next k.works is-next c.requires.way in (
       k.table,
       (let x = b.words in omega arith),
       peeks_as p c.args.board.now.table.shared.key c.args.board.now.table.shared.table_id.slots
@@ -61,9 +61,7 @@ returns-then-word-eq0-clause-waits g c =
 
 pub holds_its_target-holds-requires : goal.holds_its_target-holds-requires
 holds_its_target-holds-requires g c =
-    let n : Numbered ℕ =
-    record { number = c.args.next.now.number; command = command_of c.args.command.now } in
-    own_below c.args.plan.now c.args.self.now n c.requires.belongs.1.works c.requires.command.next
+    own_below c.requires.belongs.1.works c.requires.command.next
 
 pub compare_exchange-found-requires : goal.compare_exchange-found-requires
 compare_exchange-found-requires g c =
@@ -75,7 +73,7 @@ compare_exchange-found-requires g c =
     let n : Numbered ℕ =
     record { number = c.args.next.now.number; command = command_of c.args.command.now } in
     let is-next = c.requires.command.next in
-    let near = row_next p w n k.works is-next c.requires.way in
+    let near = row_next k.works is-next c.requires.way in
     let v : ViewOf = c.load-word.new.seat.me.0 in
     let found : ℕ = c.load-word.result in
     let peek = e.2.2 c.if-word-eq0.false in
@@ -94,14 +92,9 @@ compare_exchange-found-requires g c =
 
 pub overflow_add-self : goal.overflow_add-self
 overflow_add-self g c =
-    let p = c.args.plan.now in
-    let n : Numbered ℕ =
-    record { number = c.args.next.now.number; command = command_of c.args.command.now } in
-    let near = row_next p c.args.self.now n c.requires.belongs.1.works c.requires.command.next
-    c.requires.way in
-    let a = few_words p c.args.board.now c.requires.belongs.0 in
-    let b = c.requires.belongs.0.rows in
-    omega arith
+    let near =
+    row_next c.requires.belongs.1.works c.requires.command.next c.requires.way in
+    omega (arith, few_words c.requires.belongs.0, c.requires.belongs.0.rows)
 
 -- the exchange lost the row
 lost : (g : _) (c : After-compare_exchange-found g)
@@ -133,10 +126,7 @@ returns-clause-works g c =
 
 pub returns-clause-row : goal.returns-clause-row
 returns-clause-row g c = λ filled.
-    let n : Numbered ℕ =
-    record { number = c.args.next.now.number; command = command_of c.args.command.now } in
-    row_next c.args.plan.now c.args.self.now n c.requires.belongs.1.works c.requires.command.next
-    c.requires.way
+    row_next c.requires.belongs.1.works c.requires.command.next c.requires.way
 
 pub returns-clause-waits : goal.returns-clause-waits
 returns-clause-waits g c =

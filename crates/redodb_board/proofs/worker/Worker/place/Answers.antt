@@ -1,4 +1,4 @@
-use Rattle.std.proofs.Common.{◌≡◌, ◌↔◌, ℕ, ◌+◌, ◌-◌, ◌<◌, ◌≤◌, List, ◌∷◌, [], ◌++◌, length, Option, IsSome, option_map, sym, ap, ◌∙◌, subst, arith, append_assoc, MatchBool}
+use Rattle.std.proofs.Common.{◌≡◌, ◌↔◌, ℕ, ◌+◌, ◌-◌, ◌<◌, ◌≤◌, List, ◌∷◌, [], ◌++◌, length, Option, IsSome, option_map, refl, sym, ap, ◌∙◌, subst, arith, append_assoc, MatchBool}
 use Rattle.std.proofs.lemmas.Result.{err_from_is_err_and}
 use Rattle.redodb_model.specs.Command.{Command}
 use Rattle.redodb_commands.specs.Meaning.{command_of}
@@ -18,16 +18,16 @@ use Rattle.redodb_board.proofs.Works.{waits-same}
 use Rattle.redodb_board.proofs.worker.Worker.place.Goals as goal
 
 -- it still waits after the others' words, and after a look at an empty row
-still : (p : PlanOf) (w v u x : Worker) → Waits p w v → u.session ≡ v.session
+still : {p : PlanOf} {w v : Worker} (u x : Worker) → Waits p w v → u.session ≡ v.session
     → u.entries ≡ v.entries → u.seat ≡ v.seat → x ≡ u → Waits p w x
-still p w v u x waits session entries seat same =
+still {p = p} {w = w} {v = v} u x waits session entries seat same =
     subst (Waits p w) (sym same) (waits-same p w v u waits session entries seat)
 
 -- the command of one that waits is still next
-next-on : (p : PlanOf) (w v : Worker) (number : ℕ) (closing : Option terms.Command)
-    (x : Command ℕ) → v.session ≡ w.session → Waits p w v → IsNextBy p w number closing x
+next-on : {p : PlanOf} {w v : Worker} {number : ℕ} {closing : Option terms.Command}
+    {x : Command ℕ} → v.session ≡ w.session → Waits p w v → IsNextBy p w number closing x
     → IsNextBy p v number closing x
-next-on p w v number closing x session waits is = record {
+next-on {p = p} {number = number} {closing = closing} session waits is = record {
   next = waits.next ∙ is.next;
   told =
       (λ i. command_by (script_of p (session i)) (option_map command_of closing) number) ∙ is.told;
@@ -43,17 +43,17 @@ begins-on new seen old after before = (
 )
 
 -- one that waits on still waits
-waits-on : (p : PlanOf) (w v u : Worker) → Waits p w v → Waits p v u → Waits p w u
-waits-on p w v u before after = record {
+waits-on : {p : PlanOf} {w v u : Worker} → Waits p w v → Waits p v u → Waits p w u
+waits-on {w = w} {v = v} {u = u} before after = record {
   same = after.same ∙ before.same;
   next = after.next ∙ before.next;
   begins = begins-on (seen_by u) (seen_by v) (seen_by w) after.begins before.begins;
 }
 
 -- what is made after waiting
-made-on : (p : PlanOf) (w v u : Worker) → v.session ≡ w.session → Waits p w v → Made p v u
+made-on : {p : PlanOf} {w v u : Worker} → v.session ≡ w.session → Waits p w v → Made p v u
     → Made p w u
-made-on p w v u session before made = record {
+made-on {w = w} {v = v} {u = u} session before made = record {
   line = made.line;
   grown = made.grown ∙ ap (λ ls. ls ++ made.line ∷ []) before.same;
   session = made.session ∙ session;
@@ -70,11 +70,9 @@ one-less rows most before after same below more = omega arith
 
 pub pass_row-requires : goal.pass_row-requires
 pass_row-requires g c =
-    let p = c.args.plan.now in
-    let w = c.args.self.now in
     let u = c.catch_up.new.self in
     let e = c.catch_up.ensures in
-    let waits = waits-same p w c.rows.self u c.rows.invariant.2 e.same.0 e.same.1 e.seat in
+    let waits = still u u c.rows.invariant.2 e.same.0 e.same.1 e.seat refl in
     record {
       belongs = (
         c.requires.belongs.0,
@@ -83,41 +81,32 @@ pass_row-requires g c =
           works = e.works;
         },
       );
-      command =
-          next-on p w u c.args.next.now.number c.args.next.now.closing
-          (command_of c.args.command.now) (e.same.0 ∙ c.rows.invariant.1) waits
-          c.requires.command;
+      command = next-on (e.same.0 ∙ c.rows.invariant.1) waits c.requires.command;
       way = ap (λ j. own_way j (command_of c.args.command.now)) waits.same ∙ c.requires.way;
       none = e.caught_up;
     }
 
 pub rows-preserved-then-pass_row : goal.rows-preserved-then-pass_row
 rows-preserved-then-pass_row g c =
-    let p = c.args.plan.now in
-    let w = c.args.self.now in
     let u = c.catch_up.new.self in
     let e = c.catch_up.ensures in (
       c.pass_row.ensures.works,
       c.pass_row.ensures.session ∙ e.same.0 ∙ c.rows.invariant.1,
-      waits-on p w u c.pass_row.new.self
-          (waits-same p w c.rows.self u c.rows.invariant.2 e.same.0 e.same.1 e.seat)
+      waits-on (still u u c.rows.invariant.2 e.same.0 e.same.1 e.seat refl)
           c.pass_row.ensures.waits,
     )
 
 pub step_next-step-requires : goal.step_next-step-requires
 step_next-step-requires g c =
-    let p = c.args.plan.now in
-    let w = c.args.self.now in
-    let x = c.pass_row.new.self in
     let e = c.catch_up.ensures in
-    let waits = still p w c.rows.self c.catch_up.new.self x c.rows.invariant.2 e.same.0 e.same.1
-    e.seat (c.pass_row.ensures.same c.if-pass_row.false) in
+    let waits =
+    still c.catch_up.new.self c.pass_row.new.self c.rows.invariant.2 e.same.0 e.same.1 e.seat
+    (c.pass_row.ensures.same c.if-pass_row.false) in
     record {
       works = c.pass_row.ensures.works.works;
       command =
-          next-on p w x c.args.next.now.number c.args.next.now.closing
-          (command_of c.args.command.now)
-          (c.pass_row.ensures.session ∙ e.same.0 ∙ c.rows.invariant.1) waits c.requires.command;
+          next-on (c.pass_row.ensures.session ∙ e.same.0 ∙ c.rows.invariant.1) waits
+          c.requires.command;
       way = ap (λ j. own_way j (command_of c.args.command.now)) waits.same ∙ c.requires.way;
     }
 
@@ -133,35 +122,30 @@ returns-in_err-list-clause-session g c =
 
 pub returns-in_err-list-clause-err : goal.returns-in_err-list-clause-err
 returns-in_err-list-clause-err g c =
-    let p = c.args.plan.now in
-    let w = c.args.self.now in
-    let x = c.list_first.new.self in
     let e = c.catch_up.ensures in
     let failed = err_from_is_err_and c.from_residual.result
     c.from_residual.ensures.1 in
     rw failed.1
-    (still p w c.rows.self c.catch_up.new.self x c.rows.invariant.2 e.same.0 e.same.1 e.seat
+    (still c.catch_up.new.self c.list_first.new.self c.rows.invariant.2 e.same.0 e.same.1 e.seat
     (c.list_first.ensures.same ∙ c.pass_row.ensures.same c.if-pass_row.false))
 
 pub try_row-requires : goal.try_row-requires
 try_row-requires g c =
-    let p = c.args.plan.now in
-    let w = c.args.self.now in
     let u = c.catch_up.new.self in
     let x = c.list_first.new.self in
     let e = c.catch_up.ensures in
     let command = command_of c.args.command.now in
     let listed = c.list_first.ensures.same in
     let same : x ≡ u = listed ∙ c.pass_row.ensures.same c.if-pass_row.false in
-    let waits = still p w c.rows.self u x c.rows.invariant.2 e.same.0 e.same.1 e.seat same in
+    let waits = still u x c.rows.invariant.2 e.same.0 e.same.1 e.seat same in
     record {
       belongs = (
         c.requires.belongs.0,
-        subst (WorksAt p c.args.board.now) (sym listed) c.pass_row.ensures.works,
+        subst (WorksAt c.args.plan.now c.args.board.now) (sym listed) c.pass_row.ensures.works,
       );
       command =
-          next-on p w x c.args.next.now.number c.args.next.now.closing command
-          ((λ i. (same i).session) ∙ e.same.0 ∙ c.rows.invariant.1) waits c.requires.command;
+          next-on ((λ i. (same i).session) ∙ e.same.0 ∙ c.rows.invariant.1) waits
+          c.requires.command;
       way = ap (λ j. own_way j command) waits.same ∙ c.requires.way;
       none = (λ i. (same i).pending) ∙ e.caught_up;
       step =
@@ -179,13 +163,12 @@ returns-then-try_row-clause-session g c =
 pub returns-then-try_row-clause-ok : goal.returns-then-try_row-clause-ok
 returns-then-try_row-clause-ok g c =
     let p = c.args.plan.now in
-    let w = c.args.self.now in
     let u = c.catch_up.new.self in
     let x = c.list_first.new.self in
     let e = c.catch_up.ensures in
     let same : x ≡ u = c.list_first.ensures.same ∙ c.pass_row.ensures.same c.if-pass_row.false in
-    made-on p w x c.try_row.new.self ((λ i. (same i).session) ∙ e.same.0 ∙ c.rows.invariant.1)
-    (still p w c.rows.self u x c.rows.invariant.2 e.same.0 e.same.1 e.seat same)
+    made-on ((λ i. (same i).session) ∙ e.same.0 ∙ c.rows.invariant.1)
+    (still u x c.rows.invariant.2 e.same.0 e.same.1 e.seat same)
     (subst (λ r. MatchBool r (Made p x c.try_row.new.self) (Waits p x c.try_row.new.self))
     c.if-try_row.true c.try_row.ensures.result)
 
@@ -202,15 +185,13 @@ rows-smaller g c =
 pub rows-preserved : goal.rows-preserved
 rows-preserved g c =
     let p = c.args.plan.now in
-    let w = c.args.self.now in
     let u = c.catch_up.new.self in
     let x = c.list_first.new.self in
     let e = c.catch_up.ensures in
     let same : x ≡ u = c.list_first.ensures.same ∙ c.pass_row.ensures.same c.if-pass_row.false in (
       c.try_row.ensures.works,
       c.try_row.ensures.session ∙ (λ i. (same i).session) ∙ e.same.0 ∙ c.rows.invariant.1,
-      waits-on p w x c.try_row.new.self
-          (still p w c.rows.self u x c.rows.invariant.2 e.same.0 e.same.1 e.seat same)
+      waits-on (still u x c.rows.invariant.2 e.same.0 e.same.1 e.seat same)
           (subst (λ r. MatchBool r (Made p x c.try_row.new.self) (Waits p x c.try_row.new.self))
           c.if-try_row.false c.try_row.ensures.result),
     )

@@ -30,11 +30,10 @@ is_step : (p : PlanOf) (w : Worker) (number : ℕ) (closing : _) (x : Command �
     → Works p w → IsNextBy p w number closing x → own_way (journal_of p w) x ≡ row
     → Means w.replica.graph.tables step x → IsStepOf w step x
 is_step p w number closing x step works next way means =
-    let n : Numbered ℕ = record { number = number; command = x } in
     record {
       means = means;
       numbers =
-          subst (λ m. IsBelow m x) (sym works.lags.count) (next_below p w n works next.next);
+          subst (λ m. IsBelow m x) (sym works.lags.count) (next_below works next.next);
       no_lock = way-row x (own (journal_of p w) x) (own_build (journal_of p w) x) way;
       names = works.own.one_each ∙ sym works.lags.count;
     }

@@ -45,9 +45,9 @@ compare_exchange-found-requires g c =
     let x = command_of c.args.command.now in
     let n : Numbered ℕ = record { number = c.args.next.now.number; command = x } in
     let is-next = c.requires.command.next in
-    let near = row_next p w n k.works is-next c.requires.way in
+    let near = row_next k.works is-next c.requires.way in
     let holds : c.holds_its_target-holds.result ≡ own (journal_of p w) x =
-    c.holds_its_target-holds.ensures ∙ own_has p w n k.works is-next in
+    c.holds_its_target-holds.ensures ∙ own_has k.works is-next in
     let some = ready_said w c.args.step.now x c.args.list c.requires.step c.requires.ready in (
       k.table,
       (let x = b.words in omega arith),
@@ -61,34 +61,23 @@ compare_exchange-found-requires g c =
           some.0
           (says p w.replica (seen_by w) w.session (holds_its_target w.own x)
           (own (journal_of p w) x) x some.0
-          (lags_now p w k.works c.requires.none) (own_has p w n k.works is-next) some.1.replies
+          (lags_now p w k.works c.requires.none) (own_has k.works is-next) some.1.replies
           some.1.below),
     )
 
 pub overflow_add-self : goal.overflow_add-self
 overflow_add-self g c =
-    let p = c.args.plan.now in
-    let n : Numbered ℕ =
-    record { number = c.args.next.now.number; command = command_of c.args.command.now } in
-    let near = row_next p c.args.self.now n c.requires.belongs.1.works c.requires.command.next
-    c.requires.way in
-    let a = few_words p c.args.board.now c.requires.belongs.0 in
-    let b = c.requires.belongs.0.rows in
-    omega arith
+    let near =
+    row_next c.requires.belongs.1.works c.requires.command.next c.requires.way in
+    omega (arith, few_words c.requires.belongs.0, c.requires.belongs.0.rows)
 
 pub returns-then-found-ne0-clause-row : goal.returns-then-found-ne0-clause-row
 returns-then-found-ne0-clause-row g c =
-    let n : Numbered ℕ =
-    record { number = c.args.next.now.number; command = command_of c.args.command.now } in
-    row_next c.args.plan.now c.args.self.now n c.requires.belongs.1.works c.requires.command.next
-    c.requires.way
+    row_next c.requires.belongs.1.works c.requires.command.next c.requires.way
 
 pub returns-clause-row : goal.returns-clause-row
 returns-clause-row g c =
-    let n : Numbered ℕ =
-    record { number = c.args.next.now.number; command = command_of c.args.command.now } in
-    row_next c.args.plan.now c.args.self.now n c.requires.belongs.1.works c.requires.command.next
-    c.requires.way
+    row_next c.requires.belongs.1.works c.requires.command.next c.requires.way
 
 pub change-requires-clause-step : goal.change-requires-clause-step
 change-requires-clause-step g c =
@@ -186,7 +175,7 @@ done g c =
     → records_of c.change.new.self
     ≡ records_after by_number (records_of v.replica) v.session holds y)
     same c.change.ensures.after in
-    let held : holds_its_target w.own x ≡ h = own_has p w n k.works is-next in
+    let held : holds_its_target w.own x ≡ h = own_has k.works is-next in
     let said : SaysRow (view p ((w.session, journal_of p w) ∷ []) (seen_by w) (view_of w).also)
     w.session (journal_of p w) x reply =
     says p w.replica (seen_by w) w.session (holds_its_target w.own x) h x reply lags
@@ -201,8 +190,8 @@ done g c =
     (c.change.ensures.graph ∙ ap (λ (v : ReplicaOf). v.graph) replica)
     (c.change.ensures.applied ∙ ap (λ (v : ReplicaOf). v.applied + 1) replica) w.session
     (word p w.session c.args.next.now.number x h) h x lags
-    (next_word p w.session (journal_of p w) n h (seen_by w) (plan_is p w k.works) k.works.session
-    (lines_names p w k.works) is-next c.requires.way)
+    (next_word p w.session (journal_of p w) n h (seen_by w) (plan_is k.works) k.works.session
+    (lines_names k.works) is-next c.requires.way)
     (after x (holds_its_target w.own x) c.requires.step.means r.replies
     ∙ ap (λ z. records_after by_number (records_of w.replica) w.session z x) held) in
     let tried : w.tries + 1 ≡ length seen =
@@ -228,29 +217,19 @@ returns-clause-result g c = (done g (goal.at.returns-clause-result g c).After-en
 
 pub holds_its_target-holds-requires : goal.holds_its_target-holds-requires
 holds_its_target-holds-requires g c =
-    let n : Numbered ℕ =
-    record { number = c.args.next.now.number; command = command_of c.args.command.now } in
-    own_below c.args.plan.now c.args.self.now n c.requires.belongs.1.works c.requires.command.next
+    own_below c.requires.belongs.1.works c.requires.command.next
 
 pub enter-requires-clause-names : goal.enter-requires-clause-names
 enter-requires-clause-names g c =
-    let n : Numbered ℕ =
-    record { number = c.args.next.now.number; command = command_of c.args.command.now } in
     subst (λ (w : Worker). IsBelow (length w.own) (command_of c.args.command.now))
     (sym c.reply_to-reply.ensures.same)
-    (own_below c.args.plan.now c.args.self.now n c.requires.belongs.1.works
-    c.requires.command.next)
+    (own_below c.requires.belongs.1.works c.requires.command.next)
 
 pub enter-requires-clause-room : goal.enter-requires-clause-room
 enter-requires-clause-room g c =
-    let n : Numbered ℕ =
-    record { number = c.args.next.now.number; command = command_of c.args.command.now } in
     subst (λ (w : Worker). vec_len w.entries < vec_capacity w.entries)
     (sym c.reply_to-reply.ensures.same)
-    (room_next c.args.plan.now c.args.self.now n c.requires.belongs.1.works
-    c.requires.command.next)
+    (room_next c.requires.belongs.1.works c.requires.command.next)
 
 pub noted-requires : goal.noted-requires
-noted-requires g c =
-    closing_lets_go c.args.plan.now c.args.self.now c.args.next.now.number c.args.next.now.closing
-    (command_of c.args.command.now) c.requires.command c.requires.way
+noted-requires g c = closing_lets_go c.args.next.now.closing c.requires.command c.requires.way
