@@ -1,5 +1,5 @@
 -- Placed histories over numbers, under the names that they stand for.
-use Rattle.std.proofs.Common.{◌≡◌, ◌↔◌, ℕ, ◌+◌, ◌<◌, Bool, true, false, cond, eqb, List, [], ◌∷◌, ◌++◌, count_by, map, refl, sym, ap, ◌∙◌, subst, inl, inr, arith, eq-eqb, eqb-true}
+use Rattle.std.proofs.Common.{◌≡◌, ◌↔◌, ℕ, ◌<◌, Bool, true, false, cond, eqb, List, [], ◌∷◌, ◌++◌, count_by, map, refl, sym, ap, ◌∙◌, subst, inl, inr, arith, eq-eqb, eqb-true}
 use Rattle.std.specs.List.{AllByRecursion}
 use Rattle.std.specs.declared.cmp.Ordering.{Ordering}
 use Rattle.std.proofs.lemmas.Bool.{cases_Bool, false≢true}
@@ -130,21 +130,18 @@ module _ {M : Type 0} {to : Renaming M} (law : IsRenaming to) {naming : Naming M
       ↔ Follows naming (map (named_placed_line to.name) lines) (named_place to.name place)
   follows_by_name lines all (Row r) b = let e = rows_by_name lines all in
       (λ h. e ∙ h, λ h. sym e ∙ h)
-  follows_by_name lines all (Granted t g) b = let e = grants_by_name lines all t b in
-      let f = releases_by_name lines all t b in (
-        λ h. (ap (λ (n : ℕ). n + 1) e ∙ h.0, ap (λ (n : ℕ). n + 1) f ∙ h.1),
-        λ h. (ap (λ (n : ℕ). n + 1) (sym e) ∙ h.0, ap (λ (n : ℕ). n + 1) (sym f) ∙ h.1),
-      )
-  follows_by_name lines all (Busy t g) b = let e = grants_by_name lines all t b in
-      let f = releases_by_name lines all t b in (
-        λ h. (e ∙ h.0, ap (λ (n : ℕ). n + 1) f ∙ h.1),
-        λ h. (sym e ∙ h.0, ap (λ (n : ℕ). n + 1) (sym f) ∙ h.1),
-      )
-  follows_by_name lines all (Released t g) b = let e = grants_by_name lines all t b in
-      let f = releases_by_name lines all t b in (
-        λ h. (e ∙ h.0, ap (λ (n : ℕ). n + 1) f ∙ h.1),
-        λ h. (sym e ∙ h.0, ap (λ (n : ℕ). n + 1) (sym f) ∙ h.1),
-      )
+  follows_by_name lines all (Granted t g) b =
+      let e = grants_by_name lines all t b in
+      let f = releases_by_name lines all t b in
+      (λ h. (omega (arith, h.0), omega (arith, h.1)), λ h. (omega (arith, h.0), omega (arith, h.1)))
+  follows_by_name lines all (Busy t g) b =
+      let e = grants_by_name lines all t b in
+      let f = releases_by_name lines all t b in
+      (λ h. (omega (arith, h.0), omega (arith, h.1)), λ h. (omega (arith, h.0), omega (arith, h.1)))
+  follows_by_name lines all (Released t g) b =
+      let e = grants_by_name lines all t b in
+      let f = releases_by_name lines all t b in
+      (λ h. (omega (arith, h.0), omega (arith, h.1)), λ h. (omega (arith, h.0), omega (arith, h.1)))
 
   placed_after_by_name : (before lines : List (PlacedLine ℕ))
       → AllByRecursion (IsPlacedBelow to.count) before

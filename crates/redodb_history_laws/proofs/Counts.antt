@@ -125,24 +125,18 @@ module _ {N : Type 0} {naming : Naming N} (law : IsNaming naming) where
       ≡ releases_in naming (before ++ line ∷ []) t + 1)
   pair_at before line (Granted u g) t pair h grants releases = elim (cases_Bool (naming.same u t)) [
     | inl e ↦ let same = (law.decides u t).0 e in
-        let a = h.0 in
-        let b = h.1 in
         let c = ap (grants_in naming before) same in
         let d = ap (releases_in naming before) same in
-        let f = ap one_if e in
-        inr (omega arith)
+        inr (omega (arith, h.0, h.1, ap one_if e))
     | inr e ↦ let f = ap one_if e in
         elim (pair.pairs t) [ inl k ↦ inl (omega arith) | inr k ↦ inr (omega arith) ]
   ]
   pair_at before line (Released u g) t pair h grants releases =
       elim (cases_Bool (naming.same u t)) [
         | inl e ↦ let same = (law.decides u t).0 e in
-            let a = h.0 in
-            let b = h.1 in
             let c = ap (grants_in naming before) same in
             let d = ap (releases_in naming before) same in
-            let f = ap one_if e in
-            inl (omega arith)
+            inl (omega (arith, h.0, h.1, ap one_if e))
         | inr e ↦ let f = ap one_if e in
             elim (pair.pairs t) [ inl k ↦ inl (omega arith) | inr k ↦ inr (omega arith) ]
       ]

@@ -1,6 +1,8 @@
 -- A session's own lines, and what it builds.
 use Rattle.std.proofs.Common.{◌≡◌, ◌≢◌, ℕ, Bool, true, false, cond, not, eqb, List, [], ◌∷◌, ◌++◌, Option, Some, None, refl, sym, ap, ◌∙◌, subst, inl, inr, ne_eqb, eqb-true}
 use Rattle.std.proofs.lemmas.Bool.{cases_Bool}
+use Rattle.std.proofs.lemmas.List.{append-nil}
+use Rattle.std.proofs.lemmas.List.Elements.{filter-append}
 use Rattle.std.specs.List.{AllByRecursion}
 use mathlib.Core.Logic.{dite}
 use native.Mathlib.Decide.{ℕ_discrete}
@@ -48,18 +50,15 @@ all_of_part P (first ∷ lines) all s line i =
 pub push_own : {N : Type 0} (s : ℕ) (lines : List (PlacedLine N)) (line : PlacedLine N)
     → line.session ≡ s
     → part_of s (lines ++ line ∷ []) ≡ part_of s lines ++ line ∷ []
-push_own s [] line e = part_of-own s line [] e
-push_own s (x ∷ xs) line e = dite (ℕ_discrete x.session s)
-    (λ q. part_of-own s x (xs ++ line ∷ []) q ∙ ap (λ ys. x ∷ ys) (push_own s xs line e)
-    ∙ ap (λ ys. ys ++ line ∷ []) (sym (part_of-own s x xs q)))
-    (λ n. part_of-other s x (xs ++ line ∷ []) n ∙ push_own s xs line e
-    ∙ ap (λ ys. ys ++ line ∷ []) (sym (part_of-other s x xs n)))
+push_own s lines line e =
+    filter-append (λ (x : PlacedLine _). eqb x.session s) lines (line ∷ [])
+    ∙ ap (λ own. part_of s lines ++ own) (part_of-own s line [] e)
 
 pub push_other : {N : Type 0} (s : ℕ) (lines : List (PlacedLine N)) (line : PlacedLine N)
     → line.session ≢ s → part_of s (lines ++ line ∷ []) ≡ part_of s lines
-push_other s [] line n = part_of-other s line [] n
-push_other s (x ∷ xs) line n =
-    ap (λ z. cond (eqb x.session s) (x ∷ z) z) (push_other s xs line n)
+push_other s lines line n =
+    filter-append (λ (x : PlacedLine _). eqb x.session s) lines (line ∷ [])
+    ∙ ap (λ own. part_of s lines ++ own) (part_of-other s line [] n) ∙ append-nil (part_of s lines)
 
 -- lines with the same parts, and one line more
 pub push_same : {N : Type 0} (s : ℕ) (xs ys : List (PlacedLine N)) (line : PlacedLine N)

@@ -90,10 +90,8 @@ module _ {N : Type 0} {naming : Naming N} (law : IsNaming naming) where
       dite (dec_lt (grants_in naming before t) f)
       (λ new. elim (cases_Bool (naming.same u t)) [
         | inl is ↦ let same = (law.decides u t).0 is in
-            let a = follows.0 in
             let b = ap (grants_in naming before) same in
-            let c = ap one_if is in
-            let here : g ≡ f = omega arith in
+            let here : g ≡ f = omega (arith, follows.0, ap one_if is) in
             stands_last before line (Granted t f) (e ∙ (λ i. Granted (same i) (here i)))
         | inr not ↦ let c = ap one_if not in absurd (omega arith)
       ])
@@ -112,10 +110,8 @@ module _ {N : Type 0} {naming : Naming N} (law : IsNaming naming) where
       dite (dec_lt (releases_in naming before t) f)
       (λ new. elim (cases_Bool (naming.same u t)) [
         | inl is ↦ let same = (law.decides u t).0 is in
-            let a = follows.1 in
             let b = ap (releases_in naming before) same in
-            let c = ap one_if is in
-            let here : g ≡ f = omega arith in
+            let here : g ≡ f = omega (arith, follows.1, ap one_if is) in
             stands_last before line (Released t f) (e ∙ (λ i. Released (same i) (here i)))
         | inr not ↦ let c = ap one_if not in absurd (omega arith)
       ])

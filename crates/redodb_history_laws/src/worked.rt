@@ -2,19 +2,7 @@
 //! and which order comes first.
 
 ghost use Rattle.std.specs.Prelude.{◌≡◌, ◌∷◌, [], map, take};
-ghost use Rattle.redodb_history_laws.specs.Worked.{
-  broken_off,
-  by_number,
-  closing_row,
-  let_go,
-  one_hold,
-  one_hold_and_more,
-  one_hold_turned,
-  three_rows,
-  two_locks,
-  two_locks_turned,
-  two_scripts,
-};
+ghost use Rattle.redodb_history_laws.specs.Worked.{broken_off, by_number, closing_row, let_go, one_hold, one_hold_and_more, one_hold_turned, three_rows, two_locks, two_locks_turned, two_scripts};
 ghost use Rattle.redodb_model.specs.History.{Legal};
 ghost use Rattle.redodb_model.specs.Support.Merging.{first_journal, merging, second_journal, shared};
 ghost use Rattle.redodb_history_laws.specs.Words.{claim_word_of, row_word_of, row_words_of};

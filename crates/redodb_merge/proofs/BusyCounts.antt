@@ -69,9 +69,7 @@ busy_below-more t g j n = ap (busy_below t g j) (add-one n)
 pub busy_below-le : (t g : ℕ) (j : ℕ → List Entry) (n : ℕ)
     → ((s : ℕ) → busy_in t g (j s) ≤ 4096) → busy_below t g j n ≤ n * 4096
 busy_below-le t g j zero h = omega arith
-busy_below-le t g j (suc n) h = let a = busy_below-le t g j n h in
-    let d = h n in
-    omega arith
+busy_below-le t g j (suc n) h = omega (arith, busy_below-le t g j n h, h n)
 
 pub some_is : (o : Option ℕ) (n : ℕ) → Some n ≡ o → IsSome o
 some_is None n e = absurd (cc)

@@ -1,8 +1,7 @@
 -- The steps of the merge.
 use Rattle.std.proofs.Common.{◌≡◌, ℕ, zero, suc, ◌+◌, ◌<◌, ◌≤◌, List, [], ◌∷◌, ◌++◌, Option, Some, None, refl, sym, ap, ◌∙◌, subst, inl, inr, arith, length, get_or, drop, map, HashMap}
-use Rattle.std.proofs.Math.ListN.{set, replicate}
+use Rattle.std.proofs.Math.ListN.{set, replicate, length-set}
 use Rattle.std.proofs.lemmas.List.{get_or_default, map-append, get_or-replicate, length-replicate, get_or_past, get_or-set_same, get_or-set_other, length-map}
-use Rattle.std.proofs.Math.ListN.{length-set}
 use mathlib.Core.Logic.{dite}
 use native.Mathlib.Decide.{dec_lt}
 use Rattle.redodb_model.specs.Command as commands
@@ -64,9 +63,7 @@ in_index e (x ∷ xs) (inr i) = let r = in_index e xs i in
 within_of : (names : ℕ) (p : Place) (c : commands.Command ℕ) (reply : replies.Reply ℕ)
     → Fits (place_of p) c reply → IsBelow names c → IsWithin names p
 within_of names (Row r) c reply fits below = tt
-within_of names (Granted t g) c reply fits below = (subst (IsBelow names) fits.0 below).0
-within_of names (Busy t g) c reply fits below = (subst (IsBelow names) fits.0 below).0
-within_of names (Released t g) c reply fits below = (subst (IsBelow names) fits.0 below).0
+within_of names place c reply fits below = (subst (IsBelow names) fits.0 below).0
 
 below_at : (n : ℕ) (script : List (commands.Item ℕ)) (entries : List Entry) (k : ℕ)
     → k < length entries → TellsBelow n script entries
@@ -75,7 +72,7 @@ below_at n script [] k h all = absurd (omega arith)
 below_at n script (e ∷ es) zero h all = all.0
 below_at n script (e ∷ es) (suc k) h all = below_at n script es k (omega arith) all.1
 
-module _ (plan : PlanOf) (js : List Journal) (are : AreJournals plan js) where
+module _ {plan : PlanOf} {js : List Journal} (are : AreJournals plan js) where
   told_at_is : (s : ℕ) → journals_of plan js s ≡ map (told_at plan js s) (entries_of js s)
   told_at_is = told_is plan js are
 
@@ -161,12 +158,12 @@ module _ (plan : PlanOf) (js : List Journal) (are : AreJournals plan js) where
       at_first (Some t) = ap (λ (n : ℕ). n + 2) (zeros (length plan.names) w.claims.items claims t)
 
   -- if nothing is left
-  pub merged : {S : Type 0} (w : Turns) (counts : HashMap (ℕ × ℕ) ℕ S) (next : List ℕ)
-      (lines : List Line)
+  pub merged : {S : Type 0} {w : Turns} {counts : HashMap (ℕ × ℕ) ℕ S} {next : List ℕ}
+      {lines : List Line}
       → AllFit plan.scripts js → (m : Merging plan js w counts next lines)
       → ((s : ℕ) → s < length js → length (entries_of js s) ≤ get_or next s 0)
       → AreMerged plan js (map line_of lines)
-  merged w counts next lines fit m done = (
+  merged {w = w} {next = next} fit m done = (
     m.out,
     first_from_tickets numbers_are_names (journals_of plan js) (they_fit fit) m.out
         (half_done ticketed (counters by_number []) (journals_of plan js) m.out (shown w)
@@ -178,12 +175,12 @@ module _ (plan : PlanOf) (js : List Journal) (are : AreJournals plan js) where
   )
 
   -- if nothing may come, and something is left
-  pub stuck_none : {S : Type 0} (w : Turns) (counts : HashMap (ℕ × ℕ) ℕ S) (next : List ℕ)
-      (lines : List Line)
+  pub stuck_none : {S : Type 0} {w : Turns} {counts : HashMap (ℕ × ℕ) ℕ S} {next : List ℕ}
+      {lines : List Line}
       → Merging plan js w counts next lines
       → NoneMayCome w counts js next → (s : ℕ) → get_or next s 0 < length (entries_of js s)
       → HaveNoOrder plan js
-  stuck_none w counts next lines m never s more ls joint =
+  stuck_none {w = w} {counts = counts} {next = next} m never s more ls joint =
       half_none ticketed (counters by_number []) (journals_of plan js) m.out (shown w)
       (rests plan js next) s m.half
       (λ u can. let may = can_back plan js next w counts u m.counted can in
@@ -195,9 +192,9 @@ module _ (plan : PlanOf) (js : List Journal) (are : AreJournals plan js) where
       (joint_by_tickets numbers_are_names (journals_of plan js) ls joint)
 
   -- one step: s is the least session whose next entry may come
-  module _ {S : Type 0} (w : Turns) (counts : HashMap (ℕ × ℕ) ℕ S) (next : List ℕ)
-      (lines : List Line)
-      (m : Merging plan js w counts next lines) (s : ℕ) (least : IsLeast w counts js next s) where
+  module _ {S : Type 0} {w : Turns} {counts : HashMap (ℕ × ℕ) ℕ S} {next : List ℕ}
+      {lines : List Line}
+      (m : Merging plan js w counts next lines) {s : ℕ} (least : IsLeast w counts js next s) where
     abbrev at : ℕ
     at = get_or next s 0
 
@@ -244,9 +241,7 @@ module _ (plan : PlanOf) (js : List Journal) (are : AreJournals plan js) where
           wide = turned.same ∙ m.wide;
           counted = λ t g.
               let a = counts_step plan js next s in_next least.may.more t g least.below in
-              let b = m.counted t g in
-              let c = taken t g in
-              omega arith;
+              omega (arith, m.counted t g, taken t g);
           out = m.out ++ line ∷ [];
           said =
               tells ∙ ap (λ ls. ls ++ placed.line_of line ∷ []) m.said
@@ -262,7 +257,7 @@ module _ (plan : PlanOf) (js : List Journal) (are : AreJournals plan js) where
         }
 
 -- the scripts that a plan lends
-module _ (plan : PlanOf) (js : List Journal) (are : AreJournals plan js)
+module _ {plan : PlanOf} {js : List Journal} (are : AreJournals plan js)
     (scripts : List (List Item))
     (same : scripts_of scripts ≡ plan.scripts) where
   pub fit_lent : AllFit (scripts_of scripts) js → AllFit plan.scripts js
@@ -270,7 +265,7 @@ module _ (plan : PlanOf) (js : List Journal) (are : AreJournals plan js)
 
   pub misfit_lent : OneMisfits (scripts_of scripts) js → HaveNoOrder plan js
   misfit_lent bad =
-      misfit_none plan js are
+      misfit_none are
       (subst (λ (all : List (List (commands.Item ℕ))). OneMisfits all js) same bad)
 
   script_lent : (s : ℕ) (d : List Item) → s < length js → d ≡ get_or scripts s d
@@ -284,13 +279,13 @@ module _ (plan : PlanOf) (js : List Journal) (are : AreJournals plan js)
 
   -- one step, for the values of the loop: next as a slice, the script of s that was lent, the
   -- journal of s and the place in it
-  module _ {S : Type 0} (w : Turns) (counts : HashMap (ℕ × ℕ) ℕ S) (next : List ℕ)
-      (lines : List Line)
+  module _ {S : Type 0} {w : Turns} {counts : HashMap (ℕ × ℕ) ℕ S} {next : List ℕ}
+      {lines : List Line}
       (m : Merging plan js w counts next lines)
-      (ns : List ℕ) (ns-is : ns ≡ next) (s : ℕ) (least_at : IsLeast w counts js ns s)
-      (script : List Item) (script-is : script ≡ get_or scripts s script)
-      (d : Journal) (d-is : d ≡ get_or js s d)
-      (k : ℕ) (k-is : k ≡ get_or next s k) where
+      {ns : List ℕ} (ns-is : ns ≡ next) {s : ℕ} (least_at : IsLeast w counts js ns s)
+      {script : List Item} (script-is : script ≡ get_or scripts s script)
+      {d : Journal} (d-is : d ≡ get_or js s d)
+      {k : ℕ} (k-is : k ≡ get_or next s k) where
     least : IsLeast w counts js next s
     least = subst (λ (others : List ℕ). IsLeast w counts js others s) ns-is least_at
 
@@ -321,14 +316,14 @@ module _ (plan : PlanOf) (js : List Journal) (are : AreJournals plan js)
     take_lent is fit =
         subst (λ items. MayTake w counts items k) items-are
         (subst (MayTake w counts (entries_of js s)) place-is
-        (can_take plan js are w counts next lines m s least is (fit_lent fit)))
+        (can_take are m least is (fit_lent fit)))
 
     pub less_lent :
         left (λ i. get_or (set next s (k + 1)) i 0) js < left (λ i. get_or next i 0) js
     less_lent =
         subst
         (λ (others : List ℕ). left (λ i. get_or others i 0) js < left (λ i. get_or next i 0) js)
-        (sym next-is) (less_step plan js are w counts next lines m s least)
+        (sym next-is) (less_step are m least)
 
     pub merging_lent : {S2 : Type 0} (w2 : Turns) (counts2 : HashMap (ℕ × ℕ) ℕ S2)
         (lines2 : List Line)
@@ -347,7 +342,7 @@ module _ (plan : PlanOf) (js : List Journal) (are : AreJournals plan js)
         subst (λ commands. AddsLine lines lines2 s commands (get_or d.entries.items k none))
         (sym commands-are) told_here in
         subst (λ (others : List ℕ). Merging plan js w2 counts2 others lines2) (sym next-is)
-        (merging_step plan js are w counts next lines m s least w2 counts2 lines2
+        (merging_step are m least w2 counts2 lines2
         (subst (λ (e : Entry). Turned w w2 e.place) entry-is turned)
         (subst
         (λ (e : Entry). (t g : ℕ)

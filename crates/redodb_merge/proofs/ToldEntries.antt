@@ -70,12 +70,10 @@ module _ (naming : Naming ℕ) (s : ℕ) (script : List (commands.Item ℕ)) whe
       (reply : replies.Reply ℕ) (place : Place) (t g : ℕ)
       → closing_of naming (map line_of before) ≡ Some command
       → Fits (place_of place) command reply → busy_one t g place ≡ 0
-  closing_free before command reply (Row r) t g closes fits = refl
-  closing_free before command reply (Granted u h) t g closes fits = refl
   closing_free before command reply (Busy u h) t g closes fits =
       let (held, holds, is) = closing_held naming (map line_of before) command closes in
       absurd (lock_stays held u (builds naming (map line_of before) held) (sym fits.0 ∙ is))
-  closing_free before command reply (Released u h) t g closes fits = refl
+  closing_free before command reply place t g closes fits = refl
 
   busy_after : (t g : ℕ) (before : List (PlacedLine ℕ)) (entries : List Entry)
       → IsJournalAfter naming s script before (lines_told s script entries)
@@ -91,10 +89,7 @@ module _ (naming : Naming ℕ) (s : ℕ) (script : List (commands.Item ℕ)) whe
       elim (next_cases naming script before (numbered line) is.1) [
         | inl on ↦
             let found = next_line_from script before (numbered line) on in
-            let from = found.from in
-            let within = found.within in
-            let one = busy_one-le t g entry.place in
-            omega arith
+            omega (arith, found.from, found.within, busy_one-le t g entry.place)
         | inr closing ↦
             let one = closing_free before line.command line.reply entry.place t g closing.closes
             (fit 0 (omega arith)) in

@@ -61,23 +61,19 @@ module _ (plan : PlanOf) (js : List Journal) where
 
 pub comes_is : (turns : Turns) (p : Place) (l : PlacedLine ℕ)
     → merging.Comes turns p ↔ Comes ticketed (shown turns) (record l { place = place_of p })
-comes_is turns (Row r) l = (λ h. h, λ h. h)
-comes_is turns (Granted t g) l = (λ h. h, λ h. h)
 comes_is turns (Busy t g) l = (λ h. omega arith, λ h. omega arith)
 comes_is turns (Released t g) l = (λ h. omega arith, λ h. omega arith)
+comes_is turns place l = (λ h. h, λ h. h)
 
 shown_at : (old new : Turns) (p : Place) (l : PlacedLine ℕ) (k : Option ℕ) → Turned old new p
     → shown new k ≡ after ticketed (shown old) (record l { place = place_of p }) k
 shown_at old new (Row r) l None h = h.rows
-shown_at old new (Row r) l (Some u) h = let a = h.claims u in omega arith
 shown_at old new (Granted t g) l None h = let a = h.rows in omega arith
-shown_at old new (Granted t g) l (Some u) h = let a = h.claims u in omega arith
 shown_at old new (Busy t g) l None h = let a = h.rows in omega arith
-shown_at old new (Busy t g) l (Some u) h = let a = h.claims u in
-    let z = no_step (same_counter (numbers nat_cmp) (Some u) (Some t)) in
-    omega arith
+shown_at old new (Busy t g) l (Some u) h =
+    omega (arith, h.claims u, no_step (same_counter (numbers nat_cmp) (Some u) (Some t)))
 shown_at old new (Released t g) l None h = let a = h.rows in omega arith
-shown_at old new (Released t g) l (Some u) h = let a = h.claims u in omega arith
+shown_at old new place l (Some u) h = let a = h.claims u in omega arith
 
 pub shown_after : (old new : Turns) (p : Place) (l : PlacedLine ℕ) → Turned old new p
     → shown new ≡ after ticketed (shown old) (record l { place = place_of p })
@@ -88,22 +84,19 @@ ticket_busy : (p : Place) (t g : ℕ) → (ticket_of (place_of p)).counter ≡ S
     → (ticket_of (place_of p)).value ≡ 2 * g + 1 → (ticket_of (place_of p)).step ≡ 0
     → is_busy t g p ≡ true
 ticket_busy (Row r) t g a b d = absurd (cc)
-ticket_busy (Granted u h) t g a b d = absurd (omega arith)
 ticket_busy (Busy u h) t g a b d = let e : u ≡ t = cc in
     let f : h ≡ g = omega arith in
     (λ i. eq-eqb u t e i && eq-eqb h g f i)
-ticket_busy (Released u h) t g a b d = absurd (omega arith)
+ticket_busy place t g a b d = absurd (omega arith)
 
 busy_ticket : (p : Place) (t g : ℕ) → is_busy t g p ≡ true
     → ((ticket_of (place_of p)).counter ≡ Some t) × ((ticket_of (place_of p)).value ≡ 2 * g + 1)
     × ((ticket_of (place_of p)).step ≡ 0)
-busy_ticket (Row r) t g h = absurd (false≢true h)
-busy_ticket (Granted u v) t g h = absurd (false≢true h)
 busy_ticket (Busy u v) t g h = let both = and_true (eqb u t) (eqb v g) h in
     let a = eqb-true u t both.0 in
     let b = eqb-true v g both.1 in
     (ap Some a, (let x : 2 * v + 1 ≡ 2 * g + 1 = omega arith in x), refl)
-busy_ticket (Released u v) t g h = absurd (false≢true h)
+busy_ticket place t g h = absurd (false≢true h)
 
 in_some : (e : Entry) (xs : List Entry) (t g : ℕ) → In e xs → is_busy t g e.place ≡ true
     → 0 < busy_in t g xs
@@ -112,9 +105,7 @@ in_some e (y ∷ ys) t g (inl q) h = let a = busy_in-cons t g y ys in
     let b : one_if (is_busy t g y.place) ≡ 1 =
     ap (λ (z : Entry). one_if (is_busy t g z.place)) q ∙ ap one_if h in
     omega arith
-in_some e (y ∷ ys) t g (inr i) h = let a = busy_in-cons t g y ys in
-    let b = in_some e ys t g i h in
-    omega arith
+in_some e (y ∷ ys) t g (inr i) h = omega (arith, busy_in-cons t g y ys, in_some e ys t g i h)
 
 -- if none is counted, none is left
 below_none : (t g : ℕ) (j : ℕ → List Entry) (n : ℕ) → busy_below t g j n ≡ 0 → (u : ℕ) (e : Entry)
@@ -129,18 +120,13 @@ in_none : (xs : List Entry) (t g : ℕ) → ((e : Entry) → In e xs → is_busy
 in_none [] t g h = refl
 in_none (x ∷ xs) t g h = elim (cases_Bool (is_busy t g x.place)) [
   | inl e ↦ absurd (h x (inl refl) e)
-  | inr e ↦ let a = busy_in-cons t g x xs in
-      let b = ap one_if e in
-      let d = in_none xs t g (λ y i. h y (inr i)) in
-      omega arith
+  | inr e ↦ omega (arith, busy_in-cons t g x xs, ap one_if e, in_none xs t g (λ y i. h y (inr i)))
 ]
 
 none_below : (t g : ℕ) (j : ℕ → List Entry) (n : ℕ)
     → ((u : ℕ) (e : Entry) → In e (j u) → is_busy t g e.place ≡ true → ⊥) → busy_below t g j n ≡ 0
 none_below t g j zero h = refl
-none_below t g j (suc n) h = let a = none_below t g j n h in
-    let b = in_none (j n) t g (h n) in
-    omega arith
+none_below t g j (suc n) h = omega (arith, none_below t g j n h, in_none (j n) t g (h n))
 
 pub below_same : (t g : ℕ) (j j2 : ℕ → List Entry) (n : ℕ) → ((u : ℕ) → u < n → j2 u ≡ j u)
     → busy_below t g j2 n ≡ busy_below t g j n
@@ -205,16 +191,12 @@ module _ (plan : PlanOf) (js : List Journal) (next : List ℕ) where
   never_row : (q : placed.Place ℕ) → (ticket_of q).counter ≡ None → (ticket_of q).step ≡ 0
       → ◌≡◌ {A = ℕ} 1 0
   never_row (placed.Row r) a d = d
-  never_row (placed.Granted t g) a d = absurd (cc)
-  never_row (placed.Busy t g) a d = absurd (cc)
-  never_row (placed.Released t g) a d = absurd (cc)
+  never_row place a d = absurd (cc)
 
   never_grant : (q : placed.Place ℕ) (g : ℕ) → (ticket_of q).value ≡ 2 * g → (ticket_of q).step ≡ 0
       → ◌≡◌ {A = ℕ} 1 0
-  never_grant (placed.Row r) g b d = d
-  never_grant (placed.Granted t h) g b d = d
   never_grant (placed.Busy t h) g b d = absurd (omega arith)
-  never_grant (placed.Released t h) g b d = d
+  never_grant place g b d = d
 
   free_is : {S : Type 0} (counts : HashMap (ℕ × ℕ) ℕ S) (l : PlacedLine ℕ) (p : Place)
       → ((t g : ℕ) → tally counts t g ≡ busy_below t g (left_entries plan js next) (length js))

@@ -42,9 +42,7 @@ left f (j ∷ js) = (length j.entries.items - f 0) + left (λ i. f (suc i)) js
 left_same : (f g : ℕ → ℕ) (js : List Journal) → ((i : ℕ) → f i ≡ g i) → left f js ≡ left g js
 left_same f g [] h = refl
 left_same f g (j ∷ js) h =
-    let a = h 0 in
-    let b = left_same (λ i. f (suc i)) (λ i. g (suc i)) js (λ i. h (suc i)) in
-    omega arith
+    omega (arith, h 0, left_same (λ i. f (suc i)) (λ i. g (suc i)) js (λ i. h (suc i)))
 
 pub left_less : (f g : ℕ → ℕ) (js : List Journal) (s : ℕ) → f s < length (entries_of js s)
     → g s ≡ f s + 1 → ((i : ℕ) → i ≢ s → g i ≡ f i) → left g js < left f js

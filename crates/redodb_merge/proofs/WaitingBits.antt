@@ -49,15 +49,11 @@ fewer_ready ready s below on =
 
 pub bucket_small : (place : Place) → bucket_of place < 512
 bucket_small (Row r) = omega arith
-bucket_small (Granted t g) = omega arith
-bucket_small (Busy t g) = omega arith
-bucket_small (Released t g) = omega arith
+bucket_small place = omega arith
 
 pub woken_small : (place : Place) → bucket_woken place < 512
 woken_small (Row r) = omega arith
-woken_small (Granted t g) = omega arith
-woken_small (Busy t g) = omega arith
-woken_small (Released t g) = omega arith
+woken_small place = omega arith
 
 -- a session's bit that was put into a bucket
 module _ (buckets : List ℕ) (i w s : ℕ) (in' : i < length buckets) (read : w ≡ get_or buckets i w)

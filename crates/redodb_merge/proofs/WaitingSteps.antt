@@ -27,24 +27,19 @@ rows_same : (turns : Turns) (p : Place) (r : ℕ) → row_bucket r ≢ bucket_wo
     → rows_after p turns.rows ≡ r → turns.rows ≡ r
 rows_same turns (Row q) r ne comes h =
     absurd (ne (ap row_bucket (let e : r ≡ q + 1 = omega (arith, h, comes) in e)))
-rows_same turns (Granted t g) r ne comes h = h
-rows_same turns (Busy t g) r ne comes h = h
-rows_same turns (Released t g) r ne comes h = h
+rows_same turns place r ne comes h = h
 
 claim_same : (p : Place) (u claim : ℕ) → 256 + u % 256 ≢ bucket_woken p
     → claim_after p u claim ≡ claim
-claim_same (Row r) u claim ne = refl
 claim_same (Granted t g) u claim ne =
     let no : one_if (eqb t u) ≡ 0 = ap one_if (apart t u ne) in omega (arith, no)
-claim_same (Busy t g) u claim ne = refl
 claim_same (Released t g) u claim ne =
     let no : one_if (eqb t u) ≡ 0 = ap one_if (apart t u ne) in omega (arith, no)
+claim_same place u claim ne = refl
 
 busy_none : (p : Place) (t g : ℕ) → 256 + t % 256 ≢ bucket_woken p → busy_one t g p ≡ 0
-busy_none (Row r) t g ne = refl
-busy_none (Granted u h) t g ne = refl
 busy_none (Busy u h) t g ne = ap (λ b. one_if (b && eqb h g)) (apart u t ne)
-busy_none (Released u h) t g ne = refl
+busy_none place t g ne = refl
 
 module _ (turns turns2 : Turns) (p : Place) (comes : Comes turns p)
     (turned : Turned turns turns2 p) where
@@ -61,10 +56,8 @@ module _ {S S2 : Type 0} (counts : HashMap (ℕ × ℕ) ℕ S) (counts2 : HashMa
     (p : Place)
     (taken : (t g : ℕ) → tally counts2 t g + busy_one t g p ≡ tally counts t g) where
   still_free : (q : Place) → bucket_of q ≢ bucket_woken p → IsFree counts2 q → IsFree counts q
-  still_free (Row r) ne h = tt
-  still_free (Granted t g) ne h = tt
-  still_free (Busy t g) ne h = tt
   still_free (Released t g) ne h = omega (arith, taken t g, busy_none p t g ne, h)
+  still_free place ne h = tt
 
 -- at first all sessions are ready
 pub waiting_first : {S : Type 0} (w : Waiting) (turns : Turns) (counts : HashMap (ℕ × ℕ) ℕ S)

@@ -1,4 +1,3 @@
-pub mod Answered
 pub mod Changed
 pub mod Computed
 pub mod Digests

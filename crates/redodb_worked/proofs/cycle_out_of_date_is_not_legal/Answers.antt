@@ -3,11 +3,9 @@ use Rattle.std.specs.Prelude.{codes}
 use Rattle.redodb_model.specs.Reply.{Ood}
 use Rattle.redodb_worked.specs.Worked.{cycle}
 use Rattle.redodb_worked.proofs.Legal.{cycle_legal}
-use Rattle.redodb_worked.proofs.Changed.{same_reply}
+use Rattle.redodb_worked.proofs.Changed.{reply_kept}
 use Rattle.redodb_worked.proofs.cycle_out_of_date_is_not_legal.Goals as goal
 
 pub returns : goal.returns
 returns c wrong =
-    let e =
-    same_reply 13 (Ood []) (Ood (codes "a" ∷ codes "b" ∷ [])) cycle refl cycle_legal wrong in
-    cc
+    let e = reply_kept 13 (Ood (codes "a" ∷ codes "b" ∷ [])) cycle refl cycle_legal wrong in cc

@@ -9,22 +9,20 @@ use Rattle.redodb_merge.proofs.merging.merge.Goals as goal
 
 pub returns-then-not-all_fit : goal.returns-then-not-all_fit
 returns-then-not-all_fit c = record {
-  merged = misfit_lent c.args.plan.now c.args.journals.now c.requires.journals
-      c.scripts-scripts.result.now c.scripts-scripts.ensures.scripts c.if-not-all_fit.ensures;
+  merged = misfit_lent c.requires.journals c.scripts-scripts.result.now
+      c.scripts-scripts.ensures.scripts c.if-not-all_fit.ensures;
 }
 
 pub busy_answers-requires-clause-short : goal.busy_answers-requires-clause-short
 busy_answers-requires-clause-short c =
-    few_busy c.args.plan.now c.args.journals.now c.requires.journals
-    c.scripts-scripts.ensures.plan
-    (fit_lent c.args.plan.now c.args.journals.now c.requires.journals
-    c.scripts-scripts.result.now c.scripts-scripts.ensures.scripts c.if-not-all_fit.ensures)
+    few_busy c.requires.journals c.scripts-scripts.ensures.plan
+    (fit_lent c.requires.journals c.scripts-scripts.result.now c.scripts-scripts.ensures.scripts
+    c.if-not-all_fit.ensures)
 
 pub merging-init : goal.merging-init
 merging-init c = record {
   merging =
-      merging_first c.args.plan.now c.args.journals.now c.requires.journals
-      _ c.in_ok-counts.counts c.in_ok-next.next.items c.in_ok-lines.lines.items refl
+      merging_first c.requires.journals _ c.in_ok-counts.counts c.in_ok-next.next.items c.in_ok-lines.lines.items refl
       (c.in_ok-claims.ensures.items_if_clones_equal (λ y e. e)
       ∙ ap (λ n. replicate n 0) (c.len.ensures.count ∙ ap length c.names.ensures))
       (c.in_ok-next.ensures.items_if_clones_equal (λ y e. e))
@@ -38,50 +36,37 @@ merging-init c = record {
 
 pub least-requires-clause-within : goal.least-requires-clause-within
 least-requires-clause-within c =
-    let fit = fit_lent c.args.plan.now c.args.journals.now c.requires.journals
-    c.scripts-scripts.result.now c.scripts-scripts.ensures.scripts c.if-not-all_fit.ensures in
+    let fit = fit_lent c.requires.journals c.scripts-scripts.result.now
+    c.scripts-scripts.ensures.scripts c.if-not-all_fit.ensures in
     subst (λ (n : ℕ). (s : ℕ) → AreWithin n (entries_of c.args.journals.now s))
     (sym c.merging.invariant.merging.wide)
-    (all_within c.args.plan.now c.args.journals.now c.requires.journals
-    c.scripts-scripts.ensures.plan fit)
+    (all_within c.requires.journals c.scripts-scripts.ensures.plan fit)
 
 pub take_entry-requires : goal.take_entry-requires
 take_entry-requires c =
-    take_lent c.args.plan.now c.args.journals.now c.requires.journals
-    c.scripts-scripts.result.now c.scripts-scripts.ensures.scripts
-    c.merging.turns c.merging.counts c.merging.next.items c.merging.lines.items
-    c.merging.invariant.merging c.deref.result.now c.deref.ensures.value
-    c.in-Some.s c.in-Some.ensures.least c.index-scripts-s.result c.index-scripts-s.is
-    c.index-journals-s.result c.index-journals-s.is c.index-k.result.now c.index-k.ensures
+    take_lent c.requires.journals c.scripts-scripts.result.now c.scripts-scripts.ensures.scripts
+    c.merging.invariant.merging c.deref.ensures.value c.in-Some.ensures.least
+    c.index-scripts-s.is c.index-journals-s.is c.index-k.ensures
     c.scripts-scripts.ensures.plan c.if-not-all_fit.ensures
 
 pub merging-smaller : goal.merging-smaller
 merging-smaller c =
-    less_lent c.args.plan.now c.args.journals.now c.requires.journals
-    c.scripts-scripts.result.now c.scripts-scripts.ensures.scripts
-    c.merging.turns c.merging.counts c.merging.next.items c.merging.lines.items
-    c.merging.invariant.merging c.deref.result.now c.deref.ensures.value
-    c.in-Some.s c.in-Some.ensures.least c.index-scripts-s.result c.index-scripts-s.is
-    c.index-journals-s.result c.index-journals-s.is c.index-k.result.now c.index-k.ensures
+    less_lent c.requires.journals c.scripts-scripts.result.now c.scripts-scripts.ensures.scripts
+    c.merging.invariant.merging c.deref.ensures.value c.in-Some.ensures.least
+    c.index-scripts-s.is c.index-journals-s.is c.index-k.ensures
 
 pub merging-preserved : goal.merging-preserved
 merging-preserved c = record {
   merging =
-      merging_lent c.args.plan.now c.args.journals.now c.requires.journals
-      c.scripts-scripts.result.now c.scripts-scripts.ensures.scripts
-      c.merging.turns c.merging.counts c.merging.next.items c.merging.lines.items
-      c.merging.invariant.merging c.deref.result.now c.deref.ensures.value
-      c.in-Some.s c.in-Some.ensures.least c.index-scripts-s.result c.index-scripts-s.is
-      c.index-journals-s.result c.index-journals-s.is c.index-k.result.now c.index-k.ensures
+      merging_lent c.requires.journals c.scripts-scripts.result.now c.scripts-scripts.ensures.scripts
+      c.merging.invariant.merging c.deref.ensures.value c.in-Some.ensures.least
+      c.index-scripts-s.is c.index-journals-s.is c.index-k.ensures
       c.take_entry.new.turns c.take_entry.new.counts c.take_entry.new.lines.items
       c.in_ok-place.ensures.turned c.in_ok-place.ensures.taken c.in_ok-place.ensures.told;
   waiting =
-      waiting_lent c.args.plan.now c.args.journals.now c.requires.journals
-      c.scripts-scripts.result.now c.scripts-scripts.ensures.scripts
-      c.merging.turns c.merging.counts c.merging.next.items c.merging.lines.items
-      c.merging.invariant.merging c.deref.result.now c.deref.ensures.value
-      c.in-Some.s c.in-Some.ensures.least c.index-scripts-s.result c.index-scripts-s.is
-      c.index-journals-s.result c.index-journals-s.is c.index-k.result.now c.index-k.ensures
+      waiting_lent c.requires.journals c.scripts-scripts.result.now c.scripts-scripts.ensures.scripts
+      c.merging.invariant.merging c.deref.ensures.value c.in-Some.ensures.least
+      c.index-scripts-s.is c.index-journals-s.is c.index-k.ensures
       c.take_entry.new.turns c.take_entry.new.counts c.in_ok-place.place
       c.least.new.waiting c.wake.new.self c.in_ok-place.ensures.place
       c.in-Some.ensures.waiting c.in_ok-place.ensures.turned c.in_ok-place.ensures.taken
@@ -90,17 +75,15 @@ merging-preserved c = record {
 
 pub returns-then-is_done : goal.returns-then-is_done
 returns-then-is_done c =
-    let fit = fit_lent c.args.plan.now c.args.journals.now c.requires.journals
-    c.scripts-scripts.result.now c.scripts-scripts.ensures.scripts c.if-not-all_fit.ensures in
+    let fit = fit_lent c.requires.journals c.scripts-scripts.result.now
+    c.scripts-scripts.ensures.scripts c.if-not-all_fit.ensures in
     let done =
     subst
     (λ (ns : List ℕ). (s : ℕ) → s < length c.args.journals.now
     → length (entries_of c.args.journals.now s) ≤ get_or ns s 0)
     c.deref-2.ensures.value c.if-is_done.ensures in
     record {
-      merged = merged c.args.plan.now c.args.journals.now c.requires.journals c.merging.turns
-          c.merging.counts
-          c.merging.next.items c.merging.lines.items fit c.merging.invariant.merging done;
+      merged = merged c.requires.journals fit c.merging.invariant.merging done;
     }
 
 pub returns : goal.returns
@@ -113,9 +96,7 @@ returns c =
     subst (λ (ns : List ℕ). get_or ns left.0 0 < length (entries_of c.args.journals.now left.0))
     c.deref-2.ensures.value left.2 in
     record {
-      merged = stuck_none c.args.plan.now c.args.journals.now c.requires.journals c.merging.turns
-          c.merging.counts
-          c.merging.next.items c.merging.lines.items c.merging.invariant.merging stuck left.0 more;
+      merged = stuck_none c.requires.journals c.merging.invariant.merging stuck left.0 more;
     }
 
 pub overflow_add-k : goal.overflow_add-k

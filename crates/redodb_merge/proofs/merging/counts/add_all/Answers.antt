@@ -6,6 +6,4 @@ pub add-requires : goal.add-requires
 add-requires c t g =
     let prefix = busy_in-prefix t g c.args.entries.now c.adding.entry-index c.entry-item.result
     c.adding-test.true c.entry-item.is in
-    let v = c.adding.invariant t g in
-    let few = c.requires t g in
-    omega arith
+    omega (arith, c.adding.invariant t g, c.requires t g)

@@ -16,9 +16,7 @@ add_all-requires c t g =
     ∙ sym c.deref.ensures.value) in
     let a = c.requires.short t g c.counting.journal-index in
     let b = busy_below-le t g (entries_of js) c.counting.journal-index (c.requires.short t g) in
-    let v = c.counting.invariant t g in
-    let few = c.requires.few in
-    omega arith
+    omega (arith, c.counting.invariant t g, c.requires.few)
 
 pub counting-preserved : goal.counting-preserved
 counting-preserved c t g =
@@ -29,6 +27,4 @@ counting-preserved c t g =
     ∙ ap (λ (j : Journal). j.entries.items) (sym c.journal-item.is)
     ∙ sym c.deref.ensures.value) in
     let b = busy_below-more t g (entries_of js) c.counting.journal-index in
-    let v = c.counting.invariant t g in
-    let w = c.in_ok-add_all.ensures t g in
-    omega arith
+    omega (arith, c.counting.invariant t g, c.in_ok-add_all.ensures t g)
