@@ -22,7 +22,4 @@ returns-in-Some-clause-fits c all =
     let last : c.in-Some.last.now.number < 4294967295 =
     of_last (λ entry. entry.number < 4294967295) entries (length entries - 1) c.in-Some.last.now all
     (sym c.in-Some.ensures.value) in
-    let few = c.items-lines.ensures.few in
-    let long = ap length c.items-lines.ensures.items in
-    let max = c.max.ensures in
-    omega arith
+    omega (arith, c.items-lines.ensures.few, ap length c.items-lines.ensures.items, c.max.ensures)
