@@ -24,20 +24,18 @@ AreAccepted-append : (names : List Text) (files : List (Option Text))
     → AreAccepted names (files ++ file ∷ []) (scripts ++ script ∷ []) after
 AreAccepted-append names [] [] middle file script after same is =
     (after, subst (λ (before : List Text). IsAccepted before file script after) same is, refl)
-AreAccepted-append names [] (s ∷ scripts) middle file script after none is = absurd none
-AreAccepted-append names (f ∷ files) [] middle file script after none is = absurd none
 AreAccepted-append names (f ∷ files) (s ∷ scripts) middle file script after are is =
     (are.0, are.1, AreAccepted-append are.0 files scripts middle file script after are.2 is)
+AreAccepted-append names files scripts middle file script after are is = absurd are
 
 -- each file has a script
 pub AreAccepted-length : (names : List Text) (files : List (Option Text))
     (scripts : List (List (commands.Item Text))) (after : List Text)
     → AreAccepted names files scripts after → length files ≡ length scripts
 AreAccepted-length names [] [] after are = refl
-AreAccepted-length names [] (s ∷ scripts) after are = absurd are
-AreAccepted-length names (f ∷ files) [] after are = absurd are
 AreAccepted-length names (f ∷ files) (s ∷ scripts) after are =
     ap suc (AreAccepted-length are.0 files scripts after are.2)
+AreAccepted-length names files scripts after are = absurd are
 
 script_below-Extends : (old new : List Text) (script : List Item) → Extends old new
     → IsScriptBelow old script → IsScriptBelow new script

@@ -8,6 +8,7 @@ use Rattle.redodb_run.specs.Files.{AreAccepted}
 use Rattle.redodb_history.specs.Support.HistoryTexts.{IsSaid}
 use Rattle.redodb_history.proofs.CommandsSaid.{commands_said}
 use Rattle.redodb_history.proofs.KnownNames.{IsKnown, AreKnown, known-with_names, added_are_known}
+use Rattle.redodb_run.proofs.Lists.{all-front, all-back, all-both, all-weaker}
 
 -- the command may be in a script, and its names are among these
 pub record IsAsked (names : List Text) (command : Command Text) : Type 0 where
@@ -19,27 +20,16 @@ pub record AreAsked (names : List Text) (script : List (Item Text)) : Type 0 whe
   pub each : AllByRecursion (IsAsked names) (commands_in script)
   pub few : length script ≤ 4096
 
-known_prefix : (names ts us : List Text) → AreKnown names (ts ++ us) → AreKnown names ts
-known_prefix names [] us known = tt
-known_prefix names (t ∷ ts) us known = (known.0, known_prefix names ts us known.1)
-
-known_back : (names ts us : List Text) → AreKnown names (ts ++ us) → AreKnown names us
-known_back names [] us known = known
-known_back names (t ∷ ts) us known = known_back names ts us known.1
-
-known_more : (names more : List Text) → ((n : Text) → IsKnown names n → IsKnown more n)
-    → (ts : List Text) → AreKnown names ts → AreKnown more ts
-known_more names more kept [] known = tt
-known_more names more kept (t ∷ ts) known =
-    (kept t known.0, known_more names more kept ts known.1)
-
 each_asked : (names : List Text) (script : List (Command Text)) → AllByRecursion IsSaid script
     → AreKnown names (flat_map names_in script) → AllByRecursion (IsAsked names) script
 each_asked names [] said known = tt
 each_asked names (command ∷ script) said known =
     let rest : List Text = flat_map names_in script in (
-      record { said = said.0; known = known_prefix names (names_in command) rest known },
-      each_asked names script said.1 (known_back names (names_in command) rest known),
+      record {
+        said = said.0;
+        known = all-front (IsKnown names) (names_in command) rest known;
+      },
+      each_asked names script said.1 (all-back (IsKnown names) (names_in command) rest known),
     )
 
 script_asked : (before : List Text) (text : Text) (script : List (Item Text))
@@ -53,54 +43,44 @@ script_asked before text script after is = record {
   few = is.few;
 }
 
-asked_more : (names more : List Text) → ((n : Text) → IsKnown names n → IsKnown more n)
-    → (script : List (Command Text)) → AllByRecursion (IsAsked names) script
-    → AllByRecursion (IsAsked more) script
-asked_more names more kept [] asked = tt
-asked_more names more kept (command ∷ script) asked = (
-  record {
-    said = asked.0.said;
-    known = known_more names more kept (names_in command) asked.0.known;
-  },
-  asked_more names more kept script asked.1,
-)
-
 -- names that were known stay known
 kept : (names : List Text) (texts : List Text) (scripts : List (List (Item Text)))
     (after : List Text) → AreAccepted names (map Some texts) scripts after → (n : Text)
     → IsKnown names n → IsKnown after n
 kept names [] [] after same n known = subst (λ (ns : List Text). IsKnown ns n) (sym same) known
-kept names [] (s ∷ scripts) after are n known = absurd are
-kept names (t ∷ texts) [] after are n known = absurd are
 kept names (t ∷ texts) (s ∷ scripts) after (middle, is, are) n known =
     kept middle texts scripts after are n
     (subst (λ (ns : List Text). IsKnown ns n) (sym is.1.named.0)
     (known-with_names names (flat_map names_in (commands_in s)) n known))
+kept names texts scripts after are n known = absurd are
 
 pub all_asked : (names : List Text) (texts : List Text) (scripts : List (List (Item Text)))
     (after : List Text) → AreAccepted names (map Some texts) scripts after
     → AllByRecursion (AreAsked after) scripts
 all_asked names [] [] after same = tt
-all_asked names [] (s ∷ scripts) after are = absurd are
-all_asked names (t ∷ texts) [] after are = absurd are
 all_asked names (t ∷ texts) (s ∷ scripts) after (middle, is, are) =
     let here = script_asked names t s middle is.1 in (
       record {
-        each = asked_more middle after (kept middle texts scripts after are) (commands_in s)
-            here.each;
+        each =
+            all-weaker (IsAsked middle) (IsAsked after) (λ command asked. record {
+              said = asked.said;
+              known =
+                  all-weaker (IsKnown middle) (IsKnown after)
+                  (kept middle texts scripts after are) (names_in command) asked.known;
+            }) (commands_in s) here.each;
         few = here.few;
       },
       all_asked middle texts scripts after are,
     )
+all_asked names texts scripts after are = absurd are
 
 pub few_names : (names : List Text) (texts : List Text) (scripts : List (List (Item Text)))
     (after : List Text) → AreAccepted names (map Some texts) scripts after
     → length names ≤ 65536 → length after ≤ 65536
 few_names names [] [] after same few = omega (arith, few, ap length same)
-few_names names [] (s ∷ scripts) after are few = absurd are
-few_names names (t ∷ texts) [] after are few = absurd are
 few_names names (t ∷ texts) (s ∷ scripts) after (middle, is, are) few =
     few_names middle texts scripts after are is.1.named.1
+few_names names texts scripts after are few = absurd are
 
 pub asked_at : (names : List Text) (scripts : List (List (Item Text))) (s : ℕ)
     → AllByRecursion (AreAsked names) scripts → s < length scripts
@@ -114,10 +94,5 @@ pub all_names_known : (names : List Text) (commands : List (Command Text))
     → AllByRecursion (IsAsked names) commands → AreKnown names (flat_map names_in commands)
 all_names_known names [] asked = tt
 all_names_known names (command ∷ commands) asked =
-    known_both (names_in command) asked.0.known (all_names_known names commands asked.1)
-  where
-    known_both : (ts : List Text) → AreKnown names ts
-        → AreKnown names (flat_map names_in commands)
-        → AreKnown names (ts ++ flat_map names_in commands)
-    known_both [] a b = b
-    known_both (t ∷ ts) a b = (a.0, known_both ts a.1 b)
+    all-both (IsKnown names) (names_in command) (flat_map names_in commands) asked.0.known
+    (all_names_known names commands asked.1)

@@ -21,9 +21,7 @@ one_in (suc n) t less = dite (ℕ_discrete t n)
 total_few : (most n : ℕ) (f : ℕ → ℕ) → ((s : ℕ) → s < n → f s ≤ most) → total n f ≤ n * most
 total_few most zero f few = omega arith
 total_few most (suc n) f few =
-    let before = total_few most n f (λ s less. few s (omega arith)) in
-    let here = few n (omega arith) in
-    omega arith
+    omega (arith, total_few most n f (λ s less. few s (omega arith)), few n (omega arith))
 
 module _ {N : Type 0} where
   later : (P : Line N → Type 0) (b : Bool) (line : Line N) (part : List (Line N))
@@ -60,24 +58,18 @@ module _ {N : Type 0} where
       ≡ total n (counts lines) + total n (λ s. bit (eqb line.session s))
   total_more zero line lines = refl
   total_more (suc n) line lines =
-      let before = total_more n line lines in
-      let here = one_longer (eqb line.session n) line (part_of n lines) in
-      omega arith
+      omega (arith, total_more n line lines, one_longer (eqb line.session n) line (part_of n lines))
 
   few_lines : (n : ℕ) (lines : List (Line N)) → AllByRecursion (λ line. line.session < n) lines
       → length lines ≤ total n (counts lines)
   few_lines n [] below = omega arith
   few_lines n (line ∷ lines) below =
       let rest = few_lines n lines below.1 in
-      let more = total_more n line lines in
-      let one = one_in n line.session below.0 in
-      omega arith
+      omega (arith, total_more n line lines, one_in n line.session below.0)
 
   -- n sessions, each of at most this many lines
   pub length_by_part : (most n : ℕ) (lines : List (Line N))
       → AllByRecursion (λ line. line.session < n) lines
       → ((s : ℕ) → s < n → length (part_of s lines) ≤ most) → length lines ≤ n * most
   length_by_part most n lines below few =
-      let a = few_lines n lines below in
-      let b = total_few most n (counts lines) few in
-      omega arith
+      omega (arith, few_lines n lines below, total_few most n (counts lines) few)

@@ -17,17 +17,12 @@ module _ {X : Type 0} (xs : List X) (size n from count : ℕ) (at : from ≡ min
   -- where the next chunk begins
   pub next_chunk : from + count ≡ min ((n + 1) * size) (length xs)
   next_chunk =
-      let few = counted in
-      let left = length-drop (n * size) xs in
-      let more = suc-mul n size in
-      omega arith
+      omega (arith, counted, length-drop (n * size) xs, suc-mul n size)
 
   -- where a chunk with a line begins
   pub chunk_begins : 0 < count → from ≡ n * size
   chunk_begins some =
-      let few = counted in
-      let left = length-drop (n * size) xs in
-      omega arith
+      omega (arith, counted, length-drop (n * size) xs)
 
   -- what is gone through with this chunk
   chunk_taken : take (from + count) xs ≡ take from xs ++ slice_chunk xs size n

@@ -1,9 +1,10 @@
 -- The closing lines of a run: each is answered `ok`, they are no more than the lines before them,
 -- and their names are among the names of those.
-use Rattle.std.proofs.Common.{◌≡◌, ◌≢◌, ℕ, ◌+◌, ◌≤◌, suc, Bool, cond, Some, List, [], ◌∷◌, ◌++◌, length, map, refl, sym, ap, ◌∙◌, subst, arith, append_assoc, append-nil}
+use Rattle.std.proofs.Common.{◌≡◌, ◌≢◌, ℕ, ◌+◌, ◌≤◌, ◌==◌, suc, Bool, cond, Some, List, [], ◌∷◌, ◌++◌, length, map, refl, sym, ap, ◌∙◌, subst, arith, append_assoc, append-nil}
 use Rattle.std.specs.List.{AllByRecursion, filter, cons_option}
 use Rattle.std.proofs.lemmas.Bool.{eq-eqb, ne_eqb}
 use Rattle.std.proofs.lemmas.List.{map_push}
+use Rattle.std.proofs.lemmas.List.Elements.{filter-append}
 use Rattle.std.proofs.lemmas.List.Sums.{length-filter, count_by-le-length}
 use mathlib.Core.Logic.{dite}
 use native.Mathlib.Decide.{ℕ_discrete}
@@ -36,21 +37,15 @@ module _ {N : Type 0} where
 
   own_last : (s : ℕ) (lines : List (Line N)) (line : Line N) → line.session ≡ s
       → part_of s (lines ++ line ∷ []) ≡ part_of s lines ++ line ∷ []
-  own_last s [] line e = own_first s line [] e
-  own_last s (x ∷ xs) line e = dite (ℕ_discrete x.session s)
-      (λ q. own_first s x (xs ++ line ∷ []) q ∙ ap (λ ys. x ∷ ys) (own_last s xs line e)
-      ∙ ap (λ ys. ys ++ line ∷ []) (sym (own_first s x xs q)))
-      (λ n. other_first s x (xs ++ line ∷ []) n ∙ own_last s xs line e
-      ∙ ap (λ ys. ys ++ line ∷ []) (sym (other_first s x xs n)))
+  own_last s lines line e =
+      filter-append (λ (l : Line N). l.session == s) lines (line ∷ [])
+      ∙ ap (λ ys. part_of s lines ++ ys) (own_first s line [] e)
 
   other_last : (s : ℕ) (lines : List (Line N)) (line : Line N) → line.session ≢ s
       → part_of s (lines ++ line ∷ []) ≡ part_of s lines
-  other_last s [] line n = other_first s line [] n
-  other_last s (x ∷ xs) line n = dite (ℕ_discrete x.session s)
-      (λ q. own_first s x (xs ++ line ∷ []) q ∙ ap (λ ys. x ∷ ys) (other_last s xs line n)
-      ∙ sym (own_first s x xs q))
-      (λ m. other_first s x (xs ++ line ∷ []) m ∙ other_last s xs line n
-      ∙ sym (other_first s x xs m))
+  other_last s lines line n =
+      filter-append (λ (l : Line N). l.session == s) lines (line ∷ [])
+      ∙ ap (λ ys. part_of s lines ++ ys) (other_first s line [] n) ∙ append-nil (part_of s lines)
 
   -- all lines of a session's part are its own
   pub of_session : (s : ℕ) (lines : List (Line N))
@@ -61,16 +56,6 @@ module _ {N : Type 0} where
       (q, of_session s lines))
       (λ n. subst (AllByRecursion (λ (l : Line N). l.session ≡ s))
       (sym (other_first s line lines n)) (of_session s lines))
-
-  pub back_of : (P : Line N → Type 0) (prefix back : List (Line N))
-      → AllByRecursion P (prefix ++ back) → AllByRecursion P back
-  back_of P [] back all = all
-  back_of P (line ∷ prefix) back all = back_of P prefix back all.1
-
-  pub prefix_of : (P : Line N → Type 0) (prefix back : List (Line N))
-      → AllByRecursion P (prefix ++ back) → AllByRecursion P prefix
-  prefix_of P [] back all = tt
-  prefix_of P (line ∷ prefix) back all = (all.0, prefix_of P prefix back all.1)
 
   abbrev pub AreOkay : List (Line N) → Type 0
   AreOkay lines = AllByRecursion (λ line. line.reply ≡ Okay) lines
@@ -217,9 +202,7 @@ module _ {N : Type 0} where
       → length (locked_by own) + length (started_by own) ≤ length own
   asked_few [] = omega arith
   asked_few (line ∷ own) =
-      let one = one_asked line.command (locked_by own) (started_by own) in
-      let rest = asked_few own in
-      omega arith
+      omega (arith, one_asked line.command (locked_by own) (started_by own), asked_few own)
 
   kept_few : (p : N → Bool) (xs : List N) → length (filter p xs) ≤ length xs
   kept_few p xs = let same = length-filter p xs in let few = count_by-le-length p xs in omega arith
@@ -239,6 +222,4 @@ closings_few {naming = naming} law s own closing of closes okay =
     let held = kept_few (holds naming (map line_of before)) (locked_by (map line_of before)) in
     let building =
     kept_few (builds naming (map line_of before)) (started_by (map line_of before)) in
-    let asked = asked_few (map line_of before) in
-    let all = ap length same in
-    omega arith
+    omega (arith, asked_few (map line_of before), ap length same)

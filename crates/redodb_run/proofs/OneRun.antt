@@ -17,7 +17,7 @@ use Rattle.redodb_run.specs.RunTexts.{run_text_of, sessions_below}
 use Rattle.redodb_text.proofs.ScriptLaws.{one_script}
 use Rattle.redodb_run.specs.Runs.{IsRun, RunsAs}
 use Rattle.redodb_run.specs.Files.{AreAccepted}
-use Rattle.redodb_run.proofs.Closings.{prefix_of, back_of}
+use Rattle.redodb_run.proofs.Lists.{all-front, all-back}
 use Rattle.redodb_run.proofs.Parts.{whole_part}
 
 -- below 1 there is session 0 alone
@@ -141,11 +141,11 @@ module _ {N : Type 0} {naming : Naming N} (law : IsNaming naming) where
       let p_both = legal_parts empty one.own one.closing (subst (Legal naming) one.both p) in
       let q_both = legal_parts empty other.own other.closing (subst (Legal naming) other.both q) in
       let own : one.own ≡ other.own =
-      one_history empty true script one.own other.own (prefix_of IsFirst one.own one.closing s_both)
-      (prefix_of IsFirst other.own other.closing t_both) one.done other.done p_both.0 q_both.0 in
+      one_history empty true script one.own other.own (all-front IsFirst one.own one.closing s_both)
+      (all-front IsFirst other.own other.closing t_both) one.done other.done p_both.0 q_both.0 in
       let closing : one.closing ≡ other.closing =
       one_closing (left_by naming empty one.own) one.own one.closing other.closing
-      (back_of IsFirst one.own one.closing s_both) (back_of IsFirst other.own other.closing t_both)
+      (all-back IsFirst one.own one.closing s_both) (all-back IsFirst other.own other.closing t_both)
       one.closes (subst (λ ls. ClosesAfter naming ls other.closing) (sym own) other.closes)
       p_both.1
       (subst (λ ls. LegalFrom naming (left_by naming empty ls) other.closing) (sym own) q_both.1) in

@@ -30,7 +30,7 @@ use Rattle.redodb_history_laws.proofs.Orders.{legal_in_every_order, prefix_place
 use Rattle.redodb_history_laws.proofs.ByName.{joint_by_name, kept_map}
 use Rattle.redodb_history_laws.proofs.JournalByName.{whole_by_name}
 use Rattle.redodb_history_laws.proofs.Standing.{seen_stands}
-use Rattle.redodb_journal.specs.Plans.{PlanOf, IsPlan, script_of}
+use Rattle.redodb_journal.specs.Plans.{PlanOf, IsPlan, script_of, scripts_named}
 use Rattle.redodb_journal.specs.Journals.{journals_of, naming_of}
 use Rattle.redodb_journal.specs.declared.entry.Journal.{Journal}
 use Rattle.redodb_board.proofs.Orders.{by_text_is_naming}
@@ -39,7 +39,6 @@ use Rattle.redodb_merge.specs.Merges.{by_number, AreMerged}
 use Rattle.redodb_history.proofs.RecordedLines.{all_map}
 use Rattle.redodb_run.specs.Runs.{IsRun}
 use Rattle.redodb_run.specs.Outcomes.{AreWhole, SeenStands}
-use Rattle.redodb_journal.specs.Plans.{scripts_named}
 use Rattle.redodb_run.proofs.Lists.{all-unmapped, all-weaker}
 use Rattle.redodb_run.proofs.Wholes.{of_session, no_lines}
 use Rattle.redodb_run.proofs.Served.{Serves, whole_at}
@@ -58,9 +57,7 @@ part_named name s (line ∷ lines) =
 place_below : (n : ℕ) (l : PlacedLine ℕ) (place : Place ℕ) → Fits place l.command l.reply
     → IsBelow n l.command → IsPlaceBelow n place
 place_below n l (Row r) f b = tt
-place_below n l (Granted t g) f b = (subst (IsBelow n) f.0 b).0
-place_below n l (Busy t g) f b = (subst (IsBelow n) f.0 b).0
-place_below n l (Released t g) f b = (subst (IsBelow n) f.0 b).0
+place_below n l place f b = (subst (IsBelow n) f.0 b).0
 
 -- what is true of all lines is true of a session's
 part_all : (P : PlacedLine ℕ → Type 0) (s : ℕ) (lines : List (PlacedLine ℕ))

@@ -71,9 +71,7 @@ module _ (script : List (model.Item Text)) (all : List Text) where
         ∙ (λ k. session_lines_of (sym blank.through k) (drop (sym blank.next k) script) lines);
     shown = blank.body;
     counted =
-        let first = blank.next in
-        let none = blank.closing in
-        omega arith;
+        omega (arith, blank.next, blank.closing);
     within =
         let first = blank.next in
         omega arith;
@@ -93,9 +91,7 @@ module _ (script : List (model.Item Text)) (all : List Text) where
       shown = shows ∙ ap (λ (t : Text). t ++ ended more) are.shown
           ∙ flat_map_more ended [] are.printed more;
       counted =
-          let long = length-append are.printed (more ∷ []) in
-          let same = are.counted in
-          omega arith;
+          omega (arith, length-append are.printed (more ∷ []), are.counted);
       within = within;
     }
 

@@ -18,7 +18,8 @@ use Rattle.redodb_text.proofs.Steps.{both}
 use Rattle.redodb_run.specs.Runs.{IsRun}
 use Rattle.redodb_run.proofs.Asked.{IsAsked, AreAsked, asked_at}
 use Rattle.redodb_run.proofs.ByPart.{all_by_part, length_by_part}
-use Rattle.redodb_run.proofs.Closings.{closings_accepted, closings_few, of_session, back_of}
+use Rattle.redodb_run.proofs.Closings.{closings_accepted, closings_few, of_session}
+use Rattle.redodb_run.proofs.Lists.{all-back, all-both}
 use Rattle.redodb_history.proofs.KnownNames.{IsKnown, member_of_all}
 use Rattle.redodb_run.proofs.Lists.{all-unmapped}
 
@@ -84,8 +85,11 @@ module _ (names : List Text) where
   abbrev IsTarget : Text → Type 0
   IsTarget t = IsTrue (is_name t) × IsKnown names t
 
+  abbrev IsAskedLine : Line Text → Type 0
+  IsAskedLine line = IsAsked names line.command
+
   abbrev AreAskedLines : List (Line Text) → Type 0
-  AreAskedLines lines = AllByRecursion (λ line. IsAsked names line.command) lines
+  AreAskedLines lines = AllByRecursion IsAskedLine lines
 
   locked_target : (command : Command Text) (ts : List Text) → IsAsked names command
       → AllByRecursion IsTarget ts → AllByRecursion IsTarget (cons_option (asked_lock command) ts)
@@ -110,16 +114,6 @@ module _ (names : List Text) where
       let long = length-append t [] in
       record { said = (is.0, omega arith); known = (is.1, tt) }
 
-  all_then : (own : List (Line Text)) (line : Line Text) → AreAskedLines own
-      → IsAsked names line.command → AreAskedLines (own ++ line ∷ [])
-  all_then [] line all last = (last, tt)
-  all_then (first ∷ own) line all last = (all.0, all_then own line all.1 last)
-
-  all_both : (own closing : List (Line Text)) → AreAskedLines own → AreAskedLines closing
-      → AreAskedLines (own ++ closing)
-  all_both [] closing all others = others
-  all_both (line ∷ own) closing all others = (all.0, all_both own closing all.1 others)
-
   -- a closing command is about a target that the session locked
   closing_asked : (own closing : List (Line Text)) → AreAskedLines own
       → ClosesAfter texts own closing → AreAskedLines closing
@@ -131,7 +125,7 @@ module _ (names : List Text) where
       (locked_targets own all) (held_is_asked texts_are_names own t held) in
       let asked : IsAsked names line.command =
       subst (IsAsked names) (sym is) (letting_asked (builds texts own t) t target) in
-      (asked, closing_asked (own ++ line ∷ []) closing (all_then own line all asked) closes.1)
+      (asked, closing_asked (own ++ line ∷ []) closing (all-both IsAskedLine own (line ∷ []) all (asked, tt)) closes.1)
 
   -- all lines of a session have commands that a script may have
   part_asked : (script : List (Item Text)) (part : List (Line Text)) → AreAsked names script
@@ -142,7 +136,7 @@ module _ (names : List Text) where
       (subst (AllByRecursion (IsAsked names)) (sym does.done)
       (done_all (IsAsked names) true script (replies_in does.own) asked.each)) in
       subst AreAskedLines (sym does.both)
-      (all_both does.own does.closing own (closing_asked does.own does.closing own does.closes))
+      (all-both IsAskedLine does.own does.closing own (closing_asked does.own does.closing own does.closes))
 
 module _ (names : List Text) (scripts : List (List (Item Text)))
     (asked : AllByRecursion (AreAsked names) scripts) (lines : List (Line Text))
@@ -159,7 +153,7 @@ module _ (names : List Text) (scripts : List (List (Item Text)))
       let does = run.parts s less in
       let okay = closings_accepted texts_are_names s lines does.own does.closing run.legal does.both
       does.closes in
-      let of = back_of (λ (line : Line Text). line.session ≡ s) does.own does.closing
+      let of = all-back (λ (line : Line Text). line.session ≡ s) does.own does.closing
       (subst (AllByRecursion (λ (line : Line Text). line.session ≡ s)) does.both
       (of_session s lines)) in
       let closing = closings_few texts_are_names s does.own does.closing of does.closes okay in
@@ -167,9 +161,7 @@ module _ (names : List Text) (scripts : List (List (Item Text)))
       let long = length-map does.own command_in in
       let same = ap length does.done in
       let most = (asked_at names scripts s asked less).few in
-      let both_long = length-append does.own does.closing in
-      let all = ap length does.both in
-      omega arith
+      omega (arith, length-append does.own does.closing, ap length does.both)
 
   -- a script's lines are at most 4,096, and no more come after them
   pub few_lines : length lines ≤ length scripts * 8192

@@ -14,14 +14,13 @@ use Rattle.redodb_run.specs.RunTexts.{run_text_of, sessions_below}
 use Rattle.redodb_commands.specs.Meaning.{line_at}
 use Rattle.redodb_commands.specs.Support.Meaning.{item_at, item_of}
 use Rattle.redodb_commands.specs.declared.reply.Line as coded
-use Rattle.redodb_journal.specs.Plans.{PlanOf, scripts_of}
+use Rattle.redodb_journal.specs.Plans.{PlanOf, scripts_of, scripts_named}
 use Rattle.redodb_text.specs.declared.fault.Fault.{Fault}
 use Rattle.redodb_text.specs.declared.fault.Fault.TheVariants.{NoSession}
 use Rattle.redodb_run.specs.Runs.{IsRun, IsRunText, RunsAs}
 use Rattle.redodb_run.specs.Files.{AreAccepted}
 use Rattle.redodb_run.proofs.Accepted.{AreAccepted-length}
 use Rattle.redodb_run.specs.Support.Files.{scripts_at}
-use Rattle.redodb_journal.specs.Plans.{scripts_named}
 
 -- the plan of these scripts, over these names
 abbrev plan_here : List Text → List (List Item) → PlanOf

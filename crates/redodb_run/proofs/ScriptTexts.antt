@@ -10,9 +10,8 @@ use Rattle.redodb_model.specs.History as histories
 use Rattle.redodb_model.specs.History.{part_of}
 use Rattle.redodb_commands.specs.Support.Meaning.{item_at, item_of}
 use Rattle.redodb_commands.specs.declared.script.Item.{Item}
-use Rattle.redodb_journal.specs.Plans.{PlanOf, IsPlan, AreBelow, script_of}
+use Rattle.redodb_journal.specs.Plans.{PlanOf, IsPlan, AreBelow, script_of, scripts_named}
 use Rattle.redodb_history.specs.Histories.{history_text_of}
-use Rattle.redodb_journal.specs.Plans.{scripts_named}
 use Rattle.redodb_run.specs.RunTexts.{session_text_of, run_text_of, sessions_below}
 use Rattle.redodb_run.proofs.Lists.{all-unmapped}
 

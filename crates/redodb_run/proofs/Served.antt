@@ -60,21 +60,21 @@ ended_at p n t zero (x ∷ js) j e all got =
 ended_at p n t (suc k) (x ∷ js) j e all got =
     ended_at p (n + 1) t k js j (omega arith) all.1 got
 
-module _ (p : PlanOf) (b : Board) (seat : Seat) (js : List Journal)
+module _ {p : PlanOf} {b : Board} {seat : Seat} {js : List Journal}
     (done : AreDone p b 0 (length p.scripts) seat js) where
   one_each : length js ≡ length p.scripts
   one_each = let e = done.count in omega arith
 
   -- the seat has all sessions
-  pub for_all : (q : PlanOf) → q ≡ p → IsForAll q seat
-  for_all q key t less =
+  pub for_all : {q : PlanOf} → q ≡ p → IsForAll q seat
+  for_all key t less =
       let same = ap (λ (x : PlanOf). length x.scripts) key in
       let long = one_each in
       let has = told_has p 0 t t js (omega arith) (omega arith) in
       (has.0, subst (λ parts. HasPart parts t has.0) (sym done.parts) has.1)
 
-  pub served : (q : PlanOf) (n : ℕ) → q ≡ p → Closes q seat n → Serves p js
-  served q n key closes =
+  pub served : {q : PlanOf} {n : ℕ} → q ≡ p → Closes q seat n → Serves p js
+  served {n = n} key closes =
       let d = subst (λ x. Closes x seat n) key closes in
       record {
         lines = d.lines;

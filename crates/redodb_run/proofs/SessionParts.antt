@@ -21,9 +21,7 @@ blank_printed_all scripts lines parts count blank = record {
       (session_lines_of true (get_or scripts s []) (part_of s lines)) part (part_of s lines)
       (subst IsBlank (sym is) (blank s part less)) refl;
   few = λ s part less is.
-      let none = (blank s part less).closing in
-      let same = ap (λ (p : Part). p.closing) is in
-      omega arith;
+      omega (arith, (blank s part less).closing, ap (λ (p : Part). p.closing) is);
 }
 
 module _ (scripts : List (List (Item Text))) (lines : List (Line Text)) (line : Line Text)
@@ -96,9 +94,7 @@ module _ (scripts : List (List (Item Text))) (lines : List (Line Text)) (line : 
               let here : part ≡ new =
               is ∙ ap (λ (k : ℕ). get_or (set parts line.session new) k part) same
               ∙ get_or-set_same parts line.session new part own in
-              let closing = ap (λ (p : Part). p.closing) here in
-              let before = are.few line.session old own found in
-              omega arith)
+              omega (arith, ap (λ (p : Part). p.closing) here, are.few line.session old own found))
               (λ other.
               let before = are.few s part (omega arith)
               (is ∙ get_or-set_other parts line.session s new part other) in

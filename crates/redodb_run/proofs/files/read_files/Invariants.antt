@@ -1,6 +1,5 @@
 use Rattle.std.proofs.Common.{◌≡◌, ◌≤◌, ℕ, None, [], length, take, get_or}
-use Rattle.redodb_run.specs.Files.{AreAccepted}
-use Rattle.redodb_run.specs.Files.{bytes_of_files, failures_of_files}
+use Rattle.redodb_run.specs.Files.{AreAccepted, bytes_of_files, failures_of_files}
 use Rattle.redodb_run.specs.Support.Files.{AreScriptsBelow, scripts_at}
 use Rattle.redodb_run.proofs.files.read_files.Given as goal
 

@@ -4,7 +4,7 @@ use Rattle.redodb_commands.specs.Meaning.{line_of, line_at}
 use Rattle.redodb_commands.specs.Support.Meaning.{item_of}
 use Rattle.redodb_commands.specs.declared.script.Item.{Item}
 use Rattle.redodb_model.specs.Command as model
-use Rattle.redodb_journal.specs.Plans.{PlanOf, scripts_of}
+use Rattle.redodb_journal.specs.Plans.{PlanOf, scripts_of, scripts_named}
 use Rattle.redodb_journal.specs.Journals.{AreJournals}
 use Rattle.redodb_journal.specs.declared.entry.Journal.{Journal}
 use Rattle.redodb_board.specs.declared.board.Board.{Board}
@@ -12,7 +12,6 @@ use Rattle.redodb_board.specs.declared.seat.Seat.{Seat}
 use Rattle.redodb_board.specs.Outcomes.{Closes}
 use Rattle.redodb_merge.specs.Merges.{AreMerged}
 use Rattle.redodb_run.specs.Outcomes.{AreWhole}
-use Rattle.redodb_journal.specs.Plans.{scripts_named}
 use Rattle.redodb_run.specs.Support.Sessions.{AreDone}
 use Rattle.redodb_run.proofs.LetGo.{run_lets_go}
 use Rattle.redodb_run.proofs.Served.{Serves, for_all, served, are_journals, are_whole}
@@ -20,10 +19,10 @@ use Rattle.redodb_run.proofs.Outcomes.{is_run, history_below, seen_before}
 use Rattle.redodb_run.proofs.runs.run.Goals as goal
 
 -- all sessions of the plan are done
-all_done : (p : PlanOf) (b : Board) (scripts : List (List Item)) (seat : Seat)
-    (js : List Journal) → scripts_of scripts ≡ p.scripts
-    → AreDone p b 0 (length scripts) seat js → AreDone p b 0 (length p.scripts) seat js
-all_done p b scripts seat js same done =
+all_done : {p : PlanOf} {b : Board} {seat : Seat} {js : List Journal} (scripts : List (List Item))
+    → scripts_of scripts ≡ p.scripts → AreDone p b 0 (length scripts) seat js
+    → AreDone p b 0 (length p.scripts) seat js
+all_done {p} {b} {seat} {js} scripts same done =
     let told : List Item → List (model.Item ℕ) = λ script. map item_of script in
     subst (λ e. AreDone p b 0 e seat js) (sym (length-map scripts told) ∙ ap length same) done
 
@@ -33,60 +32,41 @@ record Closed (p : PlanOf) (js : List Journal) : Type 0 where
   pub journals : AreJournals p js
   pub whole : AreWhole p js
 
-closed : (p q : PlanOf) (b : Board) (scripts : List (List Item)) (seat : Seat)
-    (js : List Journal) (n : ℕ) → scripts_of scripts ≡ p.scripts
+closed : {p q : PlanOf} {b : Board} {seat : Seat} {js : List Journal} {n : ℕ}
+    (scripts : List (List Item)) → scripts_of scripts ≡ p.scripts
     → AreDone p b 0 (length scripts) seat js → q ≡ p → Closes q seat n → Closed p js
-closed p q b scripts seat js n same done key closes =
-    let all = all_done p b scripts seat js same done in
-    let serves = served p b seat js all q n key closes in
-    record {
-      serves = serves;
-      journals = are_journals p b seat js all serves;
-      whole = are_whole p b seat js all serves;
-    }
+closed scripts same done key closes =
+    let all = all_done scripts same done in
+    let serves = served all key closes in
+    record { serves = serves; journals = are_journals all serves; whole = are_whole all serves }
 
 pub close-rows-requires-clause-all : goal.close-rows-requires-clause-all
 close-rows-requires-clause-all g c =
-    let p = c.args.plan.now in
-    let b = c.in_ok-board.board in
-    let ran = c.in_ok-seat in
-    for_all p b ran.seat ran.journals.items
-    (all_done p b c.scripts.result.now ran.seat ran.journals.items c.scripts.ensures.scripts
-    ran.ensures)
-    b.table.shared.key c.in_ok-board.ensures.board.key
+    for_all (all_done c.scripts.result.now c.scripts.ensures.scripts c.in_ok-seat.ensures)
+    c.in_ok-board.ensures.board.key
 
 pub merge-requires : goal.merge-requires
 merge-requires g c =
     let p = c.args.plan.now in
-    let b = c.in_ok-board.board in
-    let ran = c.in_ok-seat in
     let all =
-    closed p b.table.shared.key b c.scripts.result.now ran.seat ran.journals.items
-    c.close-rows.result c.scripts.ensures.scripts ran.ensures c.in_ok-board.ensures.board.key
-    c.close-rows.ensures in
+    closed c.scripts.result.now c.scripts.ensures.scripts c.in_ok-seat.ensures
+    c.in_ok-board.ensures.board.key c.close-rows.ensures in
     record { journals = subst (AreJournals p) (sym c.deref.ensures.value) all.journals }
 
 pub unreachable-requires : goal.unreachable-requires
 unreachable-requires g c =
     let p = c.args.plan.now in
-    let b = c.in_ok-board.board in
-    let ran = c.in_ok-seat in
     let all =
-    closed p b.table.shared.key b c.scripts.result.now ran.seat ran.journals.items
-    c.close-rows.result c.scripts.ensures.scripts ran.ensures c.in_ok-board.ensures.board.key
-    c.close-rows.ensures in
+    closed c.scripts.result.now c.scripts.ensures.scripts c.in_ok-seat.ensures
+    c.in_ok-board.ensures.board.key c.close-rows.ensures in
     let none = rw c.in-None.is at c.in_ok-history.ensures.merged in
     let here = subst (Serves p) (sym c.deref.ensures.value) all.serves in
     none here.lines here.joint
 
 pub returns-clause-journals : goal.returns-clause-journals
 returns-clause-journals g c =
-    let p = c.args.plan.now in
-    let b = c.in_ok-board.board in
-    let ran = c.in_ok-seat in
-    (closed p b.table.shared.key b c.scripts.result.now ran.seat ran.journals.items
-    c.close-rows.result c.scripts.ensures.scripts ran.ensures c.in_ok-board.ensures.board.key
-    c.close-rows.ensures).whole
+    (closed c.scripts.result.now c.scripts.ensures.scripts c.in_ok-seat.ensures
+    c.in_ok-board.ensures.board.key c.close-rows.ensures).whole
 
 pub returns-clause-seen : goal.returns-clause-seen
 returns-clause-seen g c = seen_before c.args.plan.now c.in_ok-seat.journals.items
@@ -95,17 +75,15 @@ returns-clause-seen g c = seen_before c.args.plan.now c.in_ok-seat.journals.item
 is_run_here : goal.returns-clause-run
 is_run_here g c =
     let p = c.args.plan.now in
-    let b = c.in_ok-board.board in
-    let ran = c.in_ok-seat in
+    let js = c.in_ok-seat.journals.items in
     let history = c.in-Some.history.items in
     let all =
-    closed p b.table.shared.key b c.scripts.result.now ran.seat ran.journals.items
-    c.close-rows.result c.scripts.ensures.scripts ran.ensures c.in_ok-board.ensures.board.key
-    c.close-rows.ensures in
-    let merged : AreMerged p ran.journals.items (map line_of history) =
+    closed c.scripts.result.now c.scripts.ensures.scripts c.in_ok-seat.ensures
+    c.in_ok-board.ensures.board.key c.close-rows.ensures in
+    let merged : AreMerged p js (map line_of history) =
     subst (λ js. AreMerged p js (map line_of history)) c.deref.ensures.value
     (rw c.in-Some.is at c.in_ok-history.ensures.merged) in
-    is_run p ran.journals.items c.scripts.ensures.plan all.whole all.serves history merged
+    is_run p js c.scripts.ensures.plan all.whole all.serves history merged
 
 pub returns-clause-run : goal.returns-clause-run
 returns-clause-run g c = is_run_here g c
@@ -118,14 +96,12 @@ returns-clause-let_go g c =
 pub returns-clause-below : goal.returns-clause-below
 returns-clause-below g c =
     let p = c.args.plan.now in
-    let b = c.in_ok-board.board in
-    let ran = c.in_ok-seat in
+    let js = c.in_ok-seat.journals.items in
     let history = c.in-Some.history.items in
     let all =
-    closed p b.table.shared.key b c.scripts.result.now ran.seat ran.journals.items
-    c.close-rows.result c.scripts.ensures.scripts ran.ensures c.in_ok-board.ensures.board.key
-    c.close-rows.ensures in
-    let merged : AreMerged p ran.journals.items (map line_of history) =
+    closed c.scripts.result.now c.scripts.ensures.scripts c.in_ok-seat.ensures
+    c.in_ok-board.ensures.board.key c.close-rows.ensures in
+    let merged : AreMerged p js (map line_of history) =
     subst (λ js. AreMerged p js (map line_of history)) c.deref.ensures.value
     (rw c.in-Some.is at c.in_ok-history.ensures.merged) in
-    history_below p ran.journals.items c.scripts.ensures.plan all.whole all.serves history merged
+    history_below p js c.scripts.ensures.plan all.whole all.serves history merged
