@@ -13,7 +13,7 @@ typedef struct handle {
     unsigned char *at;
 } handle;
 
-/* `Told` of crates/redodb_c. */
+/* `AnswerSizes` of crates/redodb_c. */
 typedef struct told {
     size_t size;
     size_t logged;

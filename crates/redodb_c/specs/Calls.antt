@@ -9,43 +9,43 @@ use Rattle.redodb_log.specs.declared.restoring.Restored.{Restored}
 use Rattle.redodb_conversation.specs.Rounds.{Round}
 use Rattle.redodb_conversation.specs.Logs.{logged_of}
 use Rattle.redodb_conversation.specs.Support.Places.{known_of}
-use Rattle.redodb_conversation.specs.Support.Replies.{IsReplied, LogsPrefix, WouldTell}
+use Rattle.redodb_conversation.specs.Support.Replies.{IsReplied, LogsPrefix, WouldReply}
 use Rattle.redodb_conversation.specs.Support.Steps.{Known}
 use Rattle.redodb_conversation.specs.declared.replying.Replied.{Replied}
 use Rattle.redodb_conversation.specs.declared.replying.Replied.TheVariants.{Done, Fault}
-use Rattle.redodb_c.specs.declared.answering.Told.{Told}
+use Rattle.redodb_c.specs.declared.answering.AnswerSizes.{AnswerSizes}
 use Rattle.redodb_c.specs.declared.calls.Counts.{Counts}
 use Rattle.redodb_c.specs.declared.contents.Contents.{Contents}
 use Rattle.redodb_c.specs.declared.contents.Contents.TheVariants.{Closed, Open}
 
 -- the line was read, and its round is one of those of `replied`; its answer is at the beginning of
 -- the buffer, and a prefix of that is to be logged
-pub record TellsInto (replied : Replied) (old new : Known) (heard room room_after : Text)
-    (told : Told) : Type 0
+pub record RepliesInto (replied : Replied) (old new : Known) (received room room_after : Text)
+    (sizes : AnswerSizes) : Type 0
   where
     pub round : Round
-    pub heard_is : round.heard ≡ heard
+    pub received_is : round.received ≡ received
     pub step : IsReplied replied old new round
-    pub size_is : told.size ≡ length round.said
-    pub room_is : room_after ≡ round.said ++ drop told.size room
-    pub logged_is : told.logged ≡ length (logged_of old.state round.lines)
+    pub size_is : sizes.size ≡ length round.output
+    pub room_is : room_after ≡ round.output ++ drop sizes.size room
+    pub logged_is : sizes.logged ≡ length (logged_of old.state round.lines)
     pub prefix : LogsPrefix old.state round
 
 -- by the status: the line was done; it was answered by its fault; or the buffer is too small, or
 -- memory ran out, and then nothing was done
-abbrev pub Answers : ℕ → LiveState → LiveState → Text → Text → Text → Told → Type 0
-Answers status old new heard room room_after told =
-    ((status ≡ 0) × TellsInto Done (known_of old) (known_of new) heard room room_after told)
-    ⊎ (((status ≡ 1) × TellsInto Fault (known_of old) (known_of new) heard room room_after told)
+abbrev pub Answers : ℕ → LiveState → LiveState → Text → Text → Text → AnswerSizes → Type 0
+Answers status old new received room room_after sizes =
+    ((status ≡ 0) × RepliesInto Done (known_of old) (known_of new) received room room_after sizes)
+    ⊎ (((status ≡ 1) × RepliesInto Fault (known_of old) (known_of new) received room room_after sizes)
     ⊎ (IsAsKnown old new × (room_after ≡ room)
-    × (((status ≡ 2) × (length room < told.size) × WouldTell (known_of old) heard told.size)
-    ⊎ ((status ≡ 3) × (told.size ≡ 0) × (told.logged ≡ 0)))))
+    × (((status ≡ 2) × (length room < sizes.size) × WouldReply (known_of old) received sizes.size)
+    ⊎ ((status ≡ 3) × (sizes.size ≡ 0) × (sizes.logged ≡ 0)))))
 
 -- a database is open there, and answers; or none is
-abbrev pub AnswersAt : ℕ → Contents → Contents → Text → Text → Text → Told → Type 0
-AnswersAt status (Open old) now heard room room_after told =
-    (new : LiveState) × (now ≡ Open new) × Answers status old new heard room room_after told
-AnswersAt status Closed now heard room room_after told =
+abbrev pub AnswersAt : ℕ → Contents → Contents → Text → Text → Text → AnswerSizes → Type 0
+AnswersAt status (Open old) now received room room_after sizes =
+    (new : LiveState) × (now ≡ Open new) × Answers status old new received room room_after sizes
+AnswersAt status Closed now received room room_after sizes =
     (status ≡ 6) × (now ≡ Closed) × (room_after ≡ room)
 
 -- an empty database is open there; or memory ran out, and nothing was done

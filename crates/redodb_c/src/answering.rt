@@ -4,13 +4,13 @@ ghost use Rattle.redodb_c.specs.Calls.{Answers};
 use crate::contents::Opened;
 use crate::status::{FAULT, MEMORY, OK, TOO_SMALL};
 use redodb_conversation::{Replied, reply};
-use redodb_live::Withheld;
+use redodb_live::AnswerFault;
 use std::alloc::Global;
 
 /// How long an answer is.
 #[repr(C)]
 #[derive(Clone, Copy)]
-pub struct Told {
+pub struct AnswerSizes {
     /// How many bytes the answer has, or would have if the buffer is too small.
     pub size: usize,
     /// How many of them, from the first on, are to be logged.
@@ -31,31 +31,31 @@ pub(crate) fn answer(
     opened: &mut Opened,
     line: &[u8],
     room: &mut [u8],
-    told: &mut Told,
+    sizes: &mut AnswerSizes,
 ) -> u32
-    ensures { Answers result opened.old opened.new line.now room.old room.new told.new }
+    ensures { Answers result opened.old opened.new line.now room.old room.new sizes.new }
 {
-    let Opened { live, said, logged } = opened;
-    said.clear();
+    let Opened { live, output, logged } = opened;
+    output.clear();
     logged.clear();
-    match reply(alloc, live, line, room.len(), said, logged) {
+    match reply(alloc, live, line, room.len(), output, logged) {
         Ok(replied) => {
-            put(said, room);
-            told.size = said.len();
-            told.logged = logged.len();
+            put(output, room);
+            sizes.size = output.len();
+            sizes.logged = logged.len();
             match replied {
                 Replied::Done => OK,
                 Replied::Fault => FAULT,
             }
         }
-        Err(Withheld::TooLong(size)) => {
-            told.size = size;
-            told.logged = 0;
+        Err(AnswerFault::TooLong(size)) => {
+            sizes.size = size;
+            sizes.logged = 0;
             TOO_SMALL
         }
-        Err(Withheld::Unanswered(_)) => {
-            told.size = 0;
-            told.logged = 0;
+        Err(AnswerFault::Unanswered(_)) => {
+            sizes.size = 0;
+            sizes.logged = 0;
             MEMORY
         }
     }

@@ -8,7 +8,7 @@ ghost use Rattle.redodb_c.specs.Calls.{AnswersAt, Opens, Restores};
 ghost use Rattle.redodb_c.specs.contracts.contents.Contents.{the_row};
 ghost use Rattle.redodb_c.specs.declared.contents.Contents.TheVariants.{Closed};
 
-use crate::answering::{Told, answer};
+use crate::answering::{AnswerSizes, answer};
 use crate::contents::{Contents, Opened};
 use crate::handle::Handle;
 use crate::status::{DIFFERS, MEMORY, MISUSE, OK, WORN};
@@ -109,15 +109,15 @@ pub extern "C" fn redodb_c_answer(
     handle: &mut Handle,
     line: &[u8],
     room: &mut [u8],
-    told: &mut Told,
+    sizes: &mut AnswerSizes,
 ) -> u32
     ensures { AnswersAt result handle.old.contents handle.new.contents line.now
-        room.old room.new told.new }
+        room.old room.new sizes.new }
 {
     let Contents::Open(mut opened) = handle.replace(Contents::Closed) else {
         return MISUSE;
     };
-    let status = answer(alloc, &mut opened, line, room, told);
+    let status = answer(alloc, &mut opened, line, room, sizes);
     handle.replace(Contents::Open(opened));
     status
 }

@@ -7,7 +7,7 @@ use std::marker::Model;
 #[derive(Drop)]
 pub struct Opened {
     pub(crate) live: Box<Live>,
-    pub(crate) said: Vec<u8>,
+    pub(crate) output: Vec<u8>,
     pub(crate) logged: Vec<u8>,
 }
 
@@ -29,7 +29,7 @@ impl Opened {
     {
         Ok(Opened {
             live: Box::new(alloc, live)?,
-            said: Vec::new(alloc),
+            output: Vec::new(alloc),
             logged: Vec::new(alloc),
         })
     }

@@ -8,9 +8,9 @@ use Rattle.redodb_history.specs.Support.HistoryFaults.{IsCutAt}
 use Rattle.redodb_history.proofs.TextCuts.{one_cut, no_byte_in_decimal, has_lf}
 use Rattle.redodb_conversation.specs.Rounds.{Asks, HasNoSession}
 
-asks_at_space : (heard : Text) (s : ℕ) (text : Text) → Asks heard s text
-    → heard ≡ decimal (s + 1) ++ 32 ∷ text
-asks_at_space heard s text (few, parts) =
+asks_at_space : (received : Text) (s : ℕ) (text : Text) → Asks received s text
+    → received ≡ decimal (s + 1) ++ 32 ∷ text
+asks_at_space received s text (few, parts) =
     parts ∙ append_assoc (decimal (s + 1)) (codes " ") text
 
 pub no_space_no_session : (line : Text) → ¬ (Contains line 32) → HasNoSession line

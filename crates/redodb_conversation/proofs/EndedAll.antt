@@ -21,7 +21,7 @@ use Rattle.redodb_history.specs.Histories.{line_text_of}
 use Rattle.redodb_history.specs.Support.HistoryTexts.{IsLineSaid}
 use Rattle.redodb_live.specs.Support.Ended.{without_each}
 use Rattle.redodb_live.specs.Support.LiveState.{LiveState, state_in}
-use Rattle.redodb_live.specs.Support.Told.{EndsSession}
+use Rattle.redodb_live.specs.Support.Appended.{EndsSession}
 use Rattle.redodb_live.specs.Lines.{lines_text_of}
 use Rattle.redodb_live.proofs.EndingAll.{held_out, built_out}
 use Rattle.redodb_dump.specs.Dumps.{HasSessions, IsStateOver, dump_of}
@@ -106,7 +106,7 @@ ends_are_rounds before (round ∷ rounds) ends =
 pub record AreEndedSoFar (old new : LiveState) (sessions : List ℕ) (logged logged_after : Text)
     : Type 0 where
   pub rounds : List Round
-  pub asked : map (λ round. round.heard) rounds ≡ map end_line sessions
+  pub asked : map (λ round. round.received) rounds ≡ map end_line sessions
   pub endings : AreEndings (known_of old) (known_of new) rounds
   pub left : state_in new ≡ without_each sessions (state_in old)
   pub logs : logged_after ≡ logged ++ lines_text_of (lines_in rounds)
@@ -155,14 +155,14 @@ module _ (before : List (Line Text)) (old new : LiveState) (left : IsLeftBy old 
         (builders_hold texts_are_names empty (before ++ lines_in so_far.rounds)
         builders_hold_at_first)
 
-    module _ (next : LiveState) (s : ℕ) (said said_after logged_after : Text)
-        (ends : EndsSession new next s said said_after middle logged_after)
+    module _ (next : LiveState) (s : ℕ) (output output_after logged_after : Text)
+        (ends : EndsSession new next s output output_after middle logged_after)
       where
         abbrev round : Round
         round = record {
-          heard = end_line s;
+          received = end_line s;
           lines = ends.lines;
-          said = flat_map line_text_of ends.lines ++ end_text_of s;
+          output = flat_map line_text_of ends.lines ++ end_text_of s;
         }
 
         ending : s < 65535 → Ending (known_of new) (known_of next) round
@@ -176,7 +176,7 @@ module _ (before : List (Line Text)) (old new : LiveState) (left : IsLeftBy old 
           state_is = ends.is.left;
           calls_are = ends.calls;
           lines_are = ends.is.lines_are;
-          said_is = refl;
+          output_is = refl;
         }
 
         without : state_in next ≡ state_without s (state_in new)
@@ -190,7 +190,7 @@ module _ (before : List (Line Text)) (old new : LiveState) (left : IsLeftBy old 
             → AreEndedSoFar old next (sessions ++ s ∷ []) logged logged_after
         one_more_ended below = record {
           rounds = so_far.rounds ++ round ∷ [];
-          asked = map-append (λ (r : Round). r.heard) so_far.rounds (round ∷ [])
+          asked = map-append (λ (r : Round). r.received) so_far.rounds (round ∷ [])
               ∙ ap (λ ts. ts ++ end_line s ∷ []) so_far.asked
               ∙ sym (map-append end_line sessions (s ∷ []));
           endings = endings_more (known_of old) (known_of new) (known_of next) so_far.rounds round

@@ -4,7 +4,7 @@ use Rattle.std.specs.Prelude.{Result, Ok, Err, OnOk, OnErr, IsSomeAnd}
 use Rattle.redodb_model.specs.Names.{Text}
 use Rattle.redodb_log.specs.Operations.{Operation, Append, Cut, Copy, Replace, Sync, Revert, Write, LogFailed, OutputFailed}
 use Rattle.redodb_conversation.specs.Support.Opening.{HasGoneOn, HasGoneOnInPart, after_cut}
-use Rattle.redodb_conversation.specs.Support.Sending.{IsFollowedBy, IsKeptBack, IsSent, IsSentInPart, IsToldInPart, after_logging, sent_after, IsSendCause}
+use Rattle.redodb_conversation.specs.Support.Sending.{IsFollowedBy, IsKeptBack, IsSent, IsSentInPart, IsFaultSentInPart, after_logging, sent_after, IsSendCause}
 use Rattle.redodb_conversation.specs.Support.Talking.{IsTalkFault}
 use Rattle.redodb_conversation.specs.declared.opening.Opened.{Opened}
 use Rattle.redodb_conversation.specs.declared.opening.Rest.{Rest}
@@ -24,50 +24,50 @@ logging_follows : (sync : Bool) (logged : Text) (done : List Operation)
 logging_follows true logged done = (Sync ∷ Append logged ∷ [], refl)
 logging_follows false logged done = (Append logged ∷ [], refl)
 
-pub sent_follows : (sync : Bool) (logged said : Text) (done done_after : List Operation)
-    → done_after ≡ sent_after sync logged said done → IsFollowedBy done done_after
-sent_follows sync logged said done done_after e =
+pub sent_follows : (sync : Bool) (logged output : Text) (done done_after : List Operation)
+    → done_after ≡ sent_after sync logged output done → IsFollowedBy done done_after
+sent_follows sync logged output done done_after e =
     let (later, f) = logging_follows sync logged done in
-    (Write said ∷ later, e ∙ ap (λ ops. Write said ∷ ops) f)
+    (Write output ∷ later, e ∙ ap (λ ops. Write output ∷ ops) f)
 
-pub part_follows : (sync : Bool) (logged said : Text) (done done_after : List Operation)
-    → IsSentInPart sync logged said done done_after → IsFollowedBy done done_after
-part_follows sync logged said done done_after (inl (part, is_part, e)) =
+pub part_follows : (sync : Bool) (logged output : Text) (done done_after : List Operation)
+    → IsSentInPart sync logged output done done_after → IsFollowedBy done done_after
+part_follows sync logged output done done_after (inl (part, is_part, e)) =
     (LogFailed ∷ Append part ∷ [], e)
-part_follows sync logged said done done_after (inr (inl (asked, inl e))) =
+part_follows sync logged output done done_after (inr (inl (asked, inl e))) =
     (LogFailed ∷ Append logged ∷ [], e)
-part_follows sync logged said done done_after (inr (inl (asked, inr e))) =
+part_follows sync logged output done done_after (inr (inl (asked, inr e))) =
     (Revert ∷ Append logged ∷ [], e)
-part_follows sync logged said done done_after (inr (inr (part, is_part, e))) =
+part_follows sync logged output done done_after (inr (inr (part, is_part, e))) =
     let (later, f) = logging_follows sync logged done in
     (OutputFailed ∷ Write part ∷ later, e ∙ ap (λ ops. OutputFailed ∷ Write part ∷ ops) f)
 
 -- whatever came of what was sent
-pub sending_follows : {T E : Type 0} (r : Result T E) (sync : Bool) (logged said : Text)
+pub sending_follows : {T E : Type 0} (r : Result T E) (sync : Bool) (logged output : Text)
     (done done_after : List Operation)
-    → OnOk r (done_after ≡ sent_after sync logged said done)
-    → OnErr r (IsSentInPart sync logged said done done_after) → IsFollowedBy done done_after
-sending_follows (Ok x) sync logged said done done_after ok err =
-    sent_follows sync logged said done done_after ok
-sending_follows (Err e) sync logged said done done_after ok err =
-    part_follows sync logged said done done_after err
+    → OnOk r (done_after ≡ sent_after sync logged output done)
+    → OnErr r (IsSentInPart sync logged output done done_after) → IsFollowedBy done done_after
+sending_follows (Ok x) sync logged output done done_after ok err =
+    sent_follows sync logged output done done_after ok
+sending_follows (Err e) sync logged output done done_after ok err =
+    part_follows sync logged output done done_after err
 
-pub telling_follows : {T E : Type 0} (r : Result T E) (sync : Bool)
-    (logged logged_after said said_after text : Text) (done done_after : List Operation)
-    → OnOk r (IsKeptBack done done_after logged logged_after said said_after text
-    ⊎ IsSent sync done done_after logged logged_after said said_after text)
-    → OnErr r (IsToldInPart sync logged said text done done_after) → IsFollowedBy done done_after
-telling_follows (Ok x) sync logged logged_after said said_after text done done_after (inl kept) err =
+pub fault_follows : {T E : Type 0} (r : Result T E) (sync : Bool)
+    (logged logged_after output output_after text : Text) (done done_after : List Operation)
+    → OnOk r (IsKeptBack done done_after logged logged_after output output_after text
+    ⊎ IsSent sync done done_after logged logged_after output output_after text)
+    → OnErr r (IsFaultSentInPart sync logged output text done done_after) → IsFollowedBy done done_after
+fault_follows (Ok x) sync logged logged_after output output_after text done done_after (inl kept) err =
     ([], kept.same)
-telling_follows (Ok x) sync logged logged_after said said_after text done done_after (inr is) err =
-    let middle = sent_after sync logged said done in
-    follows_all done middle done_after (sent_follows sync logged said done middle refl)
+fault_follows (Ok x) sync logged logged_after output output_after text done done_after (inr is) err =
+    let middle = sent_after sync logged output done in
+    follows_all done middle done_after (sent_follows sync logged output done middle refl)
     (sent_follows sync [] text middle done_after is.sent)
-telling_follows (Err e) sync logged logged_after said said_after text done done_after ok (inl part) =
-    part_follows sync logged said done done_after part
-telling_follows (Err e) sync logged logged_after said said_after text done done_after ok (inr part) =
-    let middle = sent_after sync logged said done in
-    follows_all done middle done_after (sent_follows sync logged said done middle refl)
+fault_follows (Err e) sync logged logged_after output output_after text done done_after ok (inl part) =
+    part_follows sync logged output done done_after part
+fault_follows (Err e) sync logged logged_after output output_after text done done_after ok (inr part) =
+    let middle = sent_after sync logged output done in
+    follows_all done middle done_after (sent_follows sync logged output done middle refl)
     (part_follows sync [] text middle done_after part)
 
 pub send_fault_talks : (done : List Operation) (fault : ServeFault) → IsSendCause done fault

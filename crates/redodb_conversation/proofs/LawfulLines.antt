@@ -190,7 +190,7 @@ module _ (before : List (Line Text)) (round : Round) where
       subst (AllByRecursion (IsLineSaid 65535)) (sym is.lines_are) (
         record {
           session = is.asks.0;
-          said = command_said is.text is.line.command is.says;
+          said = command_said is.text is.line.command is.parsed;
         },
         tt,
       )

@@ -23,7 +23,7 @@ use Rattle.redodb_text.proofs.LineLaws.{one_command}
 use Rattle.redodb_history.specs.Histories.{line_text_of}
 use Rattle.redodb_live.specs.Answers.{Answer, Cause, Rows, Uses, Standing, IsAnswer, answer_line, inquiry_of, names_line}
 use Rattle.redodb_live.specs.Lines.{names_after}
-use Rattle.redodb_conversation.specs.Rounds.{Round, IsAnswered, IsEnded, IsTold, IsToldAll, IsFaulty, Asks, HasNoSession, IsFaultWord, end_text_of, end_word, fault_text_of, names_word}
+use Rattle.redodb_conversation.specs.Rounds.{Round, IsAnswered, IsEnded, IsInquired, IsListed, IsFaulty, Asks, HasNoSession, IsFaultWord, end_text_of, end_word, fault_text_of, names_word}
 use Rattle.redodb_conversation.specs.Support.Laws.{Agrees, AsksWhy, HasSufficed}
 use Rattle.redodb_conversation.proofs.LawfulTexts.{asks_one, one_inquiry}
 
@@ -62,24 +62,24 @@ one_users r n a b p q =
     λ i. record { change = change i; created = created i }
 
 -- a question but `why` has one answer
-one_told : (st : State Text) (name : Text) (a b : Answer) → inquiry_of a ≡ inquiry_of b
+one_true_answer : (st : State Text) (name : Text) (a b : Answer) → inquiry_of a ≡ inquiry_of b
     → inquiry_of a ≢ Why → IsAnswer st name a → IsAnswer st name b → a ≡ b
-one_told st name (Cause found) b e other p q = absurd (other refl)
-one_told st name a (Cause found) e other p q = absurd (other e)
-one_told st name (Rows a) (Rows b) e other p q = ap Rows (one_deps st.records name a b p q)
-one_told st name (Uses a) (Uses b) e other p q = ap Uses (one_users st.records name a b p q)
-one_told st name (Standing a b c) (Standing d f g) e other p q =
+one_true_answer st name (Cause found) b e other p q = absurd (other refl)
+one_true_answer st name a (Cause found) e other p q = absurd (other e)
+one_true_answer st name (Rows a) (Rows b) e other p q = ap Rows (one_deps st.records name a b p q)
+one_true_answer st name (Uses a) (Uses b) e other p q = ap Uses (one_users st.records name a b p q)
+one_true_answer st name (Standing a b c) (Standing d f g) e other p q =
     let state = p.0 ∙ sym q.0 in
     let holder = p.1 ∙ sym q.1 in
     let file = p.2 ∙ sym q.2 in
     λ i. Standing (state i) (holder i) (file i)
-one_told st name a b e other p q = absurd cc
+one_true_answer st name a b e other p q = absurd cc
 
-module _ (before : List (Line Text)) (a b : Round) (same : a.heard ≡ b.heard) where
-  asked_both : (s t : ℕ) (text other : Text) → Asks a.heard s text → Asks b.heard t other
+module _ (before : List (Line Text)) (a b : Round) (same : a.received ≡ b.received) where
+  asked_both : (s t : ℕ) (text other : Text) → Asks a.received s text → Asks b.received t other
       → (s ≡ t) × (text ≡ other)
   asked_both s t text other p q =
-      asks_one b.heard s t text other (subst (λ h. Asks h s text) same p) q
+      asks_one b.received s t text other (subst (λ h. Asks h s text) same p) q
 
   pub answered_agree : IsAnswered before a → IsAnswered before b → Agrees a b
   answered_agree p q =
@@ -88,7 +88,7 @@ module _ (before : List (Line Text)) (a b : Round) (same : a.heard ≡ b.heard) 
       let session : p.line.session ≡ q.line.session = asked.0 in
       let command : p.line.command ≡ q.line.command =
       one_command q.text p.line.command q.line.command
-      (subst (λ t. IsCommandLine t p.line.command) asked.1 p.says) q.says in
+      (subst (λ t. IsCommandLine t p.line.command) asked.1 p.parsed) q.parsed in
       let reply : p.line.reply ≡ q.line.reply =
       one_answer texts_are_names st q.line.session q.line.command p.line.reply q.line.reply
       (subst (λ (at : ℕ × Command Text). Answers texts st at.0 at.1 p.line.reply)
@@ -97,7 +97,7 @@ module _ (before : List (Line Text)) (a b : Round) (same : a.heard ≡ b.heard) 
       λ i. record { session = session i; command = command i; reply = reply i } in
       record {
         lines = p.lines_are ∙ ap (λ (l : Line Text). l ∷ []) line ∙ sym q.lines_are;
-        said = λ other. p.said_is ∙ ap line_text_of line ∙ sym q.said_is;
+        output = λ other. p.output_is ∙ ap line_text_of line ∙ sym q.output_is;
       }
 
   pub ended_agree : IsEnded before a → IsEnded before b → Agrees a b
@@ -109,12 +109,12 @@ module _ (before : List (Line Text)) (a b : Round) (same : a.heard ≡ b.heard) 
       (subst (λ s. ClosesAfter texts (part_of s before) a.lines) session p.closes) q.closes in
       record {
         lines = lines;
-        said = λ other. p.said_is
-            ∙ (λ i. flat_map line_text_of (lines i) ++ end_text_of (session i)) ∙ sym q.said_is;
+        output = λ other. p.output_is
+            ∙ (λ i. flat_map line_text_of (lines i) ++ end_text_of (session i)) ∙ sym q.output_is;
       }
 
-  pub told_agree : IsTold before a → IsTold before b → Agrees a b
-  told_agree p q = record { lines = p.none ∙ sym q.none; said = said }
+  pub inquired_agree : IsInquired before a → IsInquired before b → Agrees a b
+  inquired_agree p q = record { lines = p.none ∙ sym q.none; output = output }
     where
       asked : (p.session ≡ q.session)
           × (inquiry_text_of p.inquiry p.name ≡ inquiry_text_of q.inquiry q.name)
@@ -124,36 +124,36 @@ module _ (before : List (Line Text)) (a b : Round) (same : a.heard ≡ b.heard) 
       about : (p.inquiry ≡ q.inquiry) × (p.name ≡ q.name)
       about = one_inquiry p.inquiry q.inquiry p.name q.name asked.1
 
-      no_why : ¬ (AsksWhy a.heard) → inquiry_of p.tells.answer ≢ Why
+      no_why : ¬ (AsksWhy a.received) → inquiry_of p.answers.answer ≢ Why
       no_why other e =
           other (
             p.session,
             p.name,
-            subst (λ inquiry. Asks a.heard p.session (inquiry_text_of inquiry p.name))
-                (sym p.tells.asked ∙ e) p.asks,
+            subst (λ inquiry. Asks a.received p.session (inquiry_text_of inquiry p.name))
+                (sym p.answers.asked ∙ e) p.asks,
           )
 
-      answers : ¬ (AsksWhy a.heard) → p.tells.answer ≡ q.tells.answer
+      answers : ¬ (AsksWhy a.received) → p.answers.answer ≡ q.answers.answer
       answers other =
           let st = left_by texts empty before in
-          one_told st q.name p.tells.answer q.tells.answer
-          (p.tells.asked ∙ about.0 ∙ sym q.tells.asked) (no_why other)
-          (subst (λ name. IsAnswer st name p.tells.answer) about.1 p.tells.is) q.tells.is
+          one_true_answer st q.name p.answers.answer q.answers.answer
+          (p.answers.asked ∙ about.0 ∙ sym q.answers.asked) (no_why other)
+          (subst (λ name. IsAnswer st name p.answers.answer) about.1 p.answers.is) q.answers.is
 
-      said : ¬ (AsksWhy a.heard) → a.said ≡ b.said
-      said other =
+      output : ¬ (AsksWhy a.received) → a.output ≡ b.output
+      output other =
           let answer = answers other in
-          p.tells.line_is
-          ∙ (λ i. answer_line (asked.0 i) (about.1 i) (answer i)) ∙ sym q.tells.line_is
+          p.answers.line_is
+          ∙ (λ i. answer_line (asked.0 i) (about.1 i) (answer i)) ∙ sym q.answers.line_is
 
-  pub told_all_agree : IsToldAll before a → IsToldAll before b → Agrees a b
-  told_all_agree p q =
+  pub listed_agree : IsListed before a → IsListed before b → Agrees a b
+  listed_agree p q =
       let session = (asked_both p.session q.session names_word names_word p.asks q.asks).0 in
       record {
         lines = p.none ∙ sym q.none;
-        said = λ other. p.tells
+        output = λ other. p.answers
             ∙ ap (λ s. names_line s (names_after before) (left_by texts empty before)) session
-            ∙ sym q.tells;
+            ∙ sym q.answers;
       }
 
 -- the text has a fault
@@ -165,7 +165,7 @@ HasFault before text word =
 
 -- where memory and counters sufficed
 pub has_fault : (before : List (Line Text)) (round : Round) (s : ℕ) (text word : Text)
-    → HasSufficed round → round.said ≡ fault_text_of (decimal (s + 1)) word
+    → HasSufficed round → round.output ≡ fault_text_of (decimal (s + 1)) word
     → IsFaultWord (length before) (names_after before) text word → HasFault before text word
 has_fault before round s text word room e (inl is) = is
 has_fault before round s text word room e (inr (inl is)) =
@@ -183,15 +183,15 @@ one_fault before text u v p q =
 -- the cause of a fault's line
 abbrev pub FaultCause : List (Line Text) → Round → Type 0
 FaultCause before round =
-    (HasNoSession round.heard × (round.said ≡ fault_text_of (codes "0") (codes "bad-session")))
-    ⊎ ((s : ℕ) × (text : Text) × (word : Text) × Asks round.heard s text
+    (HasNoSession round.received × (round.output ≡ fault_text_of (codes "0") (codes "bad-session")))
+    ⊎ ((s : ℕ) × (text : Text) × (word : Text) × Asks round.received s text
     × IsFaultWord (length before) (names_after before) text word
-    × (round.said ≡ fault_text_of (decimal (s + 1)) word))
+    × (round.output ≡ fault_text_of (decimal (s + 1)) word))
 
-module _ (before : List (Line Text)) (a b : Round) (same : a.heard ≡ b.heard)
+module _ (before : List (Line Text)) (a b : Round) (same : a.received ≡ b.received)
     (room : HasSufficed a) (room' : HasSufficed b)
   where
-    same_cause : FaultCause before a → FaultCause before b → a.said ≡ b.said
+    same_cause : FaultCause before a → FaultCause before b → a.output ≡ b.output
     same_cause (inl p) (inl q) = p.1 ∙ sym q.1
     same_cause (inl p) (inr (s, text, word, asks, is, e)) =
         absurd (p.0 s text (subst (λ h. Asks h s text) (sym same) asks))
@@ -208,5 +208,5 @@ module _ (before : List (Line Text)) (a b : Round) (same : a.heard ≡ b.heard)
     pub faulty_agree : IsFaulty before a → IsFaulty before b → Agrees a b
     faulty_agree p q = record {
       lines = p.none ∙ sym q.none;
-      said = λ other. same_cause p.cause q.cause;
+      output = λ other. same_cause p.cause q.cause;
     }

@@ -33,31 +33,31 @@ abbrev number_of : ℕ → Text
 number_of s = decimal (s + 1) ++ codes " "
 
 abbrev names_it : ℕ → Text → Bool
-names_it s heard = starts_with nat_eq heard (number_of s)
+names_it s received = starts_with nat_eq received (number_of s)
 
 module _ (s : ℕ) (few : s < 65535) where
-  by_session : (heard : Text) (lines : List (Line Text)) (t : ℕ) (text : Text)
-      → Asks heard t text → AreOf t lines → part_of s lines ≡ cond (names_it s heard) lines []
-  by_session heard lines t text asks of =
-      let starts = starts_is Decides-eqb heard (number_of s) (names_it s heard) refl in
+  by_session : (received : Text) (lines : List (Line Text)) (t : ℕ) (text : Text)
+      → Asks received t text → AreOf t lines → part_of s lines ≡ cond (names_it s received) lines []
+  by_session received lines t text asks of =
+      let starts = starts_is Decides-eqb received (number_of s) (names_it s received) refl in
       elim (eqb_tells t s) [
         | inl (equal, same) ↦
-            let is : names_it s heard ≡ true =
+            let is : names_it s received ≡ true =
             starts.1 text (asks.1 ∙ ap (λ n. number_of n ++ text) same) in
             part_all s lines (subst (λ n. AreOf n lines) same of)
             ∙ ap (λ b. cond b lines []) (sym is)
         | inr (unequal, other) ↦
-            let is : names_it s heard ≡ false =
-            false_from_ne_true (names_it s heard) (λ named.
-            other (asks_one heard t s text (drop (length (number_of s)) heard) asks
+            let is : names_it s received ≡ false =
+            false_from_ne_true (names_it s received) (λ named.
+            other (asks_one received t s text (drop (length (number_of s)) received) asks
             (few, starts.0 named)).0) in
             part_none s t lines other of ∙ ap (λ b. cond b lines []) (sym is)
       ]
 
-  no_lines : (heard : Text) (lines : List (Line Text)) → lines ≡ []
-      → part_of s lines ≡ cond (names_it s heard) lines []
-  no_lines heard lines none =
-      ap (part_of s) none ∙ sym none ∙ either (names_it s heard)
+  no_lines : (received : Text) (lines : List (Line Text)) → lines ≡ []
+      → part_of s lines ≡ cond (names_it s received) lines []
+  no_lines received lines none =
+      ap (part_of s) none ∙ sym none ∙ either (names_it s received)
     where
       either : (b : Bool) → lines ≡ cond b lines []
       either true = refl
@@ -69,16 +69,16 @@ module _ (s : ℕ) (few : s < 65535) where
   of_session t (line ∷ lines) accepted = (accepted.0.0, of_session t lines accepted.1)
 
   own_round : (before : List (Line Text)) (round : Round) → IsRound before round
-      → part_of s round.lines ≡ cond (names_it s round.heard) round.lines []
+      → part_of s round.lines ≡ cond (names_it s round.received) round.lines []
   own_round before round (inl is) =
-      by_session round.heard round.lines is.line.session is.text is.asks
+      by_session round.received round.lines is.line.session is.text is.asks
       (subst (AreOf is.line.session) (sym is.lines_are) (refl, tt))
   own_round before round (inr (inl is)) =
-      by_session round.heard round.lines is.session _ is.asks
+      by_session round.received round.lines is.session _ is.asks
       (of_session is.session round.lines is.accepted)
-  own_round before round (inr (inr (inl is))) = no_lines round.heard round.lines is.none
-  own_round before round (inr (inr (inr (inl is)))) = no_lines round.heard round.lines is.none
-  own_round before round (inr (inr (inr (inr is)))) = no_lines round.heard round.lines is.none
+  own_round before round (inr (inr (inl is))) = no_lines round.received round.lines is.none
+  own_round before round (inr (inr (inr (inl is)))) = no_lines round.received round.lines is.none
+  own_round before round (inr (inr (inr (inr is)))) = no_lines round.received round.lines is.none
 
   with_round : (b : Bool) (round : Round) (rounds : List Round)
       → cond b round.lines [] ++ lines_in rounds ≡ lines_in (cond b (round ∷ rounds) rounds)
@@ -94,4 +94,4 @@ module _ (s : ℕ) (few : s < 65535) where
       let others = own_lines (before ++ round.lines) rounds are.1 in
       filter-append (λ (line : Line Text). eqb line.session s) round.lines (lines_in rounds)
       ∙ (λ i. first i ++ others i)
-      ∙ with_round (names_it s round.heard) round (rounds_of s rounds)
+      ∙ with_round (names_it s round.received) round (rounds_of s rounds)

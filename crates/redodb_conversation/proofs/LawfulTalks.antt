@@ -226,12 +226,12 @@ module _ (version : Text) (former : Former) (rounds before since others : List R
         → IsPrefix written (output_of version former (before ++ since))
         → HasFirst begun.past left (own (since ++ others)) (own since)
         → IsLogBehind version former rounds written left
-    log_behind written left said found = record {
+    log_behind written left output found = record {
       before = before;
       since = since;
       others = others;
       parts = parts;
-      said = said;
+      output = output;
       lines = past_lines begun.past ++ found.lines;
       torn = found.torn;
       is_log = (begun.past, found.lines, found.is_log, refl);

@@ -22,21 +22,21 @@ use Rattle.redodb_history.proofs.FreeWords.{decimal_is_visible}
 use Rattle.redodb_history.proofs.HistoryLines.{number_is_without}
 use Rattle.redodb_conversation.specs.Rounds.{Asks, end_word, names_word}
 
-asks_at_space : (heard : Text) (s : ℕ) (text : Text) → Asks heard s text
-    → heard ≡ decimal (s + 1) ++ 32 ∷ text
-asks_at_space heard s text asks =
+asks_at_space : (received : Text) (s : ℕ) (text : Text) → Asks received s text
+    → received ≡ decimal (s + 1) ++ 32 ∷ text
+asks_at_space received s text asks =
     asks.1 ∙ append_assoc (decimal (s + 1)) (codes " ") text
 
 -- a line names one session and has one text
-pub asks_one : (heard : Text) (s t : ℕ) (text other : Text) → Asks heard s text
-    → Asks heard t other → (s ≡ t) × (text ≡ other)
-asks_one heard s t text other p q =
+pub asks_one : (received : Text) (s t : ℕ) (text other : Text) → Asks received s text
+    → Asks received t other → (s ≡ t) × (text ≡ other)
+asks_one received s t text other p q =
     let small = p.0 in
     let few = q.0 in
     let both = first_cut 32 (decimal (s + 1)) (decimal (t + 1)) text other
     (number_is_without 32 (s + 1) refl (omega arith))
     (number_is_without 32 (t + 1) refl (omega arith))
-    (sym (asks_at_space heard s text p) ∙ asks_at_space heard t other q) in
+    (sym (asks_at_space received s text p) ∙ asks_at_space received t other q) in
     let same : s + 1 ≡ t + 1 =
     decimal_injective (s + 1) (t + 1) (omega arith) (omega arith) both.0 in
     (omega arith, both.1)
@@ -53,15 +53,15 @@ second_kind (n ∷ []) = 4
 second_kind (n ∷ w ∷ ws) = word_kind w
 
 -- that of the first word after the session
-abbrev pub heard_kind : Text → ℕ
-heard_kind heard = second_kind (words_of heard)
+abbrev pub received_kind : Text → ℕ
+received_kind received = second_kind (words_of received)
 
-pub kind_of_first : (heard : Text) (s : ℕ) (text w : Text) (ws : List Text) → Asks heard s text
-    → words_of text ≡ w ∷ ws → heard_kind heard ≡ word_kind w
-kind_of_first heard s text w ws asks e =
+pub kind_of_first : (received : Text) (s : ℕ) (text w : Text) (ws : List Text) → Asks received s text
+    → words_of text ≡ w ∷ ws → received_kind received ≡ word_kind w
+kind_of_first received s text w ws asks e =
     let few = asks.0 in
     let number = decimal (s + 1) in
-    ap heard_kind (asks_at_space heard s text asks)
+    ap received_kind (asks_at_space received s text asks)
     ∙ ap second_kind (words_of-first number text (decimal_is_visible (s + 1) (omega arith)))
     ∙ ap (λ words. second_kind (number ∷ words)) e
 

@@ -9,27 +9,27 @@ use Rattle.redodb_text.specs.Inquiries.{asked_fault, inquiry_text_of, inquiry_wo
 use Rattle.redodb_text.proofs.FaultOrCommand.{no_fault_in_a_line}
 use Rattle.redodb_text.proofs.Inquired.{asked_of_command}
 use Rattle.redodb_live.specs.Lines.{names_after}
-use Rattle.redodb_conversation.specs.Rounds.{Round, IsRound, IsAnswered, IsEnded, IsTold, IsToldAll, IsFaulty, AreRounds, Asks, end_word, names_word}
+use Rattle.redodb_conversation.specs.Rounds.{Round, IsRound, IsAnswered, IsEnded, IsInquired, IsListed, IsFaulty, AreRounds, Asks, end_word, names_word}
 use Rattle.redodb_conversation.specs.Support.Laws.{Agree, Agrees, AsksWhy, HasSufficed}
 use Rattle.redodb_conversation.proofs.LawfulLines.{names_after-append}
-use Rattle.redodb_conversation.proofs.LawfulRounds.{answered_agree, ended_agree, told_agree, told_all_agree, faulty_agree, has_fault, HasFault, FaultCause}
-use Rattle.redodb_conversation.proofs.LawfulTexts.{asks_one, command_asks_nothing, command_keyword, heard_kind, inquiry_asked, inquiry_kind, inquiry_words, kind_of_first}
+use Rattle.redodb_conversation.proofs.LawfulRounds.{answered_agree, ended_agree, inquired_agree, listed_agree, faulty_agree, has_fault, HasFault, FaultCause}
+use Rattle.redodb_conversation.proofs.LawfulTexts.{asks_one, command_asks_nothing, command_keyword, received_kind, inquiry_asked, inquiry_kind, inquiry_words, kind_of_first}
 
 -- the line has no fault, and is of this kind
-record IsFine (before : List (Line Text)) (heard : Text) (kind : ℕ) : Type 0 where
+record IsFine (before : List (Line Text)) (received : Text) (kind : ℕ) : Type 0 where
   pub session : ℕ
   pub text : Text
-  pub asks : Asks heard session text
-  pub kind_is : heard_kind heard ≡ kind
+  pub asks : Asks received session text
+  pub kind_is : received_kind received ≡ kind
   pub fine : (text ≡ end_word) ⊎ ((text ≡ names_word)
       ⊎ (asked_fault 16777216 (names_after before) text ≡ None))
 
 module _ (before : List (Line Text)) (round : Round) where
-  answered_fine : IsAnswered before round → IsFine before round.heard 0
+  answered_fine : IsAnswered before round → IsFine before round.received 0
   answered_fine is =
       let names = names_after before in
       let line = is.line in
-      let keyword = command_keyword is.text line.command is.says.2 in
+      let keyword = command_keyword is.text line.command is.parsed.2 in
       let after = with_names names (names_in line.command ++ []) in
       let few : length after ≤ 16777216 =
       subst (λ ns. length ns ≤ 16777216) (names_after-append before (line ∷ [])) is.few_names in
@@ -37,46 +37,46 @@ module _ (before : List (Line Text)) (round : Round) where
         session = line.session;
         text = is.text;
         asks = is.asks;
-        kind_is = kind_of_first round.heard line.session is.text keyword.word keyword.words is.asks
+        kind_is = kind_of_first round.received line.session is.text keyword.word keyword.words is.asks
             keyword.words_are ∙ keyword.kind;
         fine = inr (inr (asked_of_command 16777216 names is.text
-            (command_asks_nothing is.text line.command is.says.2)
-            ∙ no_fault_in_a_line {most = 16777216} names is.text line.command after is.says (refl, few)));
+            (command_asks_nothing is.text line.command is.parsed.2)
+            ∙ no_fault_in_a_line {most = 16777216} names is.text line.command after is.parsed (refl, few)));
       }
 
-  ended_fine : IsEnded before round → IsFine before round.heard 1
+  ended_fine : IsEnded before round → IsFine before round.received 1
   ended_fine is = record {
     session = is.session;
     text = end_word;
     asks = is.asks;
-    kind_is = kind_of_first round.heard is.session end_word end_word [] is.asks refl;
+    kind_is = kind_of_first round.received is.session end_word end_word [] is.asks refl;
     fine = inl refl;
   }
 
-  told_all_fine : IsToldAll before round → IsFine before round.heard 2
-  told_all_fine is = record {
+  listed_fine : IsListed before round → IsFine before round.received 2
+  listed_fine is = record {
     session = is.session;
     text = names_word;
     asks = is.asks;
-    kind_is = kind_of_first round.heard is.session names_word names_word [] is.asks refl;
+    kind_is = kind_of_first round.received is.session names_word names_word [] is.asks refl;
     fine = inr (inl refl);
   }
 
-  told_fine : IsTold before round → IsFine before round.heard 3
-  told_fine is =
+  inquired_fine : IsInquired before round → IsFine before round.received 3
+  inquired_fine is =
       let text = inquiry_text_of is.inquiry is.name in
       record {
         session = is.session;
         text = text;
         asks = is.asks;
-        kind_is = kind_of_first round.heard is.session text (inquiry_word is.inquiry) _ is.asks
+        kind_is = kind_of_first round.received is.session text (inquiry_word is.inquiry) _ is.asks
             (inquiry_words is.inquiry is.name) ∙ inquiry_kind is.inquiry;
         fine = inr (inr (inquiry_asked (names_after before) is.inquiry is.name ∙ is.fits));
       }
 
   -- and a line with a fault is not fine
   faulty_not_fine : (kind : ℕ) → IsFaulty before round → HasSufficed round
-      → ¬ (IsFine before round.heard kind)
+      → ¬ (IsFine before round.received kind)
   faulty_not_fine kind is room fine = by is.cause
     where
       fails : (text word : Text) → HasFault before text word → fine.text ≡ text → ⊥
@@ -85,7 +85,7 @@ module _ (before : List (Line Text)) (round : Round) where
           either : (fine.text ≡ end_word) ⊎ ((fine.text ≡ names_word)
               ⊎ (asked_fault 16777216 (names_after before) fine.text ≡ None)) → ⊥
           either (inl ended) = no_end (sym same ∙ ended)
-          either (inr (inl told)) = no_names (sym same ∙ told)
+          either (inr (inl listed)) = no_names (sym same ∙ listed)
           either (inr (inr none)) =
               let some : None ≡ Some fault =
               sym none ∙ ap (asked_fault 16777216 (names_after before)) same ∙ found in
@@ -95,84 +95,84 @@ module _ (before : List (Line Text)) (round : Round) where
       by (inl none) = none.0 fine.session fine.text fine.asks
       by (inr (s, text, word, asks, found, e)) =
           fails text word (has_fault before round s text word room e found)
-          (asks_one round.heard fine.session s fine.text text fine.asks asks).1
+          (asks_one round.received fine.session s fine.text text fine.asks asks).1
 
-module _ (before : List (Line Text)) (a b : Round) (same : a.heard ≡ b.heard)
+module _ (before : List (Line Text)) (a b : Round) (same : a.received ≡ b.received)
     (room : HasSufficed a) (room' : HasSufficed b)
   where
-    unlike : (m n : ℕ) → IsFine before a.heard m → IsFine before b.heard n → m ≡ n
-    unlike m n p q = sym p.kind_is ∙ ap heard_kind same ∙ q.kind_is
+    unlike : (m n : ℕ) → IsFine before a.received m → IsFine before b.received n → m ≡ n
+    unlike m n p q = sym p.kind_is ∙ ap received_kind same ∙ q.kind_is
 
-    fails_first : (kind : ℕ) → IsFaulty before a → IsFine before b.heard kind → ⊥
+    fails_first : (kind : ℕ) → IsFaulty before a → IsFine before b.received kind → ⊥
     fails_first kind p q =
         faulty_not_fine before a kind p room (subst (λ h. IsFine before h kind) (sym same) q)
 
-    fails_second : (kind : ℕ) → IsFine before a.heard kind → IsFaulty before b → ⊥
+    fails_second : (kind : ℕ) → IsFine before a.received kind → IsFaulty before b → ⊥
     fails_second kind p q =
         faulty_not_fine before b kind q room' (subst (λ h. IsFine before h kind) same p)
 
     round_agrees : IsRound before a → IsRound before b → Agrees a b
     round_agrees (inl p) (inl q) = answered_agree before a b same p q
     round_agrees (inr (inl p)) (inr (inl q)) = ended_agree before a b same p q
-    round_agrees (inr (inr (inl p))) (inr (inr (inl q))) = told_agree before a b same p q
+    round_agrees (inr (inr (inl p))) (inr (inr (inl q))) = inquired_agree before a b same p q
     round_agrees (inr (inr (inr (inl p)))) (inr (inr (inr (inl q)))) =
-        told_all_agree before a b same p q
+        listed_agree before a b same p q
     round_agrees (inr (inr (inr (inr p)))) (inr (inr (inr (inr q)))) =
         faulty_agree before a b same room room' p q
     round_agrees (inl p) (inr (inl q)) =
         absurd (let e = unlike 0 1 (answered_fine before a p) (ended_fine before b q) in cc)
     round_agrees (inl p) (inr (inr (inl q))) =
-        absurd (let e = unlike 0 3 (answered_fine before a p) (told_fine before b q) in cc)
+        absurd (let e = unlike 0 3 (answered_fine before a p) (inquired_fine before b q) in cc)
     round_agrees (inl p) (inr (inr (inr (inl q)))) =
-        absurd (let e = unlike 0 2 (answered_fine before a p) (told_all_fine before b q) in cc)
+        absurd (let e = unlike 0 2 (answered_fine before a p) (listed_fine before b q) in cc)
     round_agrees (inl p) (inr (inr (inr (inr q)))) =
         absurd (fails_second 0 (answered_fine before a p) q)
     round_agrees (inr (inl p)) (inl q) =
         absurd (let e = unlike 1 0 (ended_fine before a p) (answered_fine before b q) in cc)
     round_agrees (inr (inl p)) (inr (inr (inl q))) =
-        absurd (let e = unlike 1 3 (ended_fine before a p) (told_fine before b q) in cc)
+        absurd (let e = unlike 1 3 (ended_fine before a p) (inquired_fine before b q) in cc)
     round_agrees (inr (inl p)) (inr (inr (inr (inl q)))) =
-        absurd (let e = unlike 1 2 (ended_fine before a p) (told_all_fine before b q) in cc)
+        absurd (let e = unlike 1 2 (ended_fine before a p) (listed_fine before b q) in cc)
     round_agrees (inr (inl p)) (inr (inr (inr (inr q)))) =
         absurd (fails_second 1 (ended_fine before a p) q)
     round_agrees (inr (inr (inl p))) (inl q) =
-        absurd (let e = unlike 3 0 (told_fine before a p) (answered_fine before b q) in cc)
+        absurd (let e = unlike 3 0 (inquired_fine before a p) (answered_fine before b q) in cc)
     round_agrees (inr (inr (inl p))) (inr (inl q)) =
-        absurd (let e = unlike 3 1 (told_fine before a p) (ended_fine before b q) in cc)
+        absurd (let e = unlike 3 1 (inquired_fine before a p) (ended_fine before b q) in cc)
     round_agrees (inr (inr (inl p))) (inr (inr (inr (inl q)))) =
-        absurd (let e = unlike 3 2 (told_fine before a p) (told_all_fine before b q) in cc)
+        absurd (let e = unlike 3 2 (inquired_fine before a p) (listed_fine before b q) in cc)
     round_agrees (inr (inr (inl p))) (inr (inr (inr (inr q)))) =
-        absurd (fails_second 3 (told_fine before a p) q)
+        absurd (fails_second 3 (inquired_fine before a p) q)
     round_agrees (inr (inr (inr (inl p)))) (inl q) =
-        absurd (let e = unlike 2 0 (told_all_fine before a p) (answered_fine before b q) in cc)
+        absurd (let e = unlike 2 0 (listed_fine before a p) (answered_fine before b q) in cc)
     round_agrees (inr (inr (inr (inl p)))) (inr (inl q)) =
-        absurd (let e = unlike 2 1 (told_all_fine before a p) (ended_fine before b q) in cc)
+        absurd (let e = unlike 2 1 (listed_fine before a p) (ended_fine before b q) in cc)
     round_agrees (inr (inr (inr (inl p)))) (inr (inr (inl q))) =
-        absurd (let e = unlike 2 3 (told_all_fine before a p) (told_fine before b q) in cc)
+        absurd (let e = unlike 2 3 (listed_fine before a p) (inquired_fine before b q) in cc)
     round_agrees (inr (inr (inr (inl p)))) (inr (inr (inr (inr q)))) =
-        absurd (fails_second 2 (told_all_fine before a p) q)
+        absurd (fails_second 2 (listed_fine before a p) q)
     round_agrees (inr (inr (inr (inr p)))) (inl q) =
         absurd (fails_first 0 p (answered_fine before b q))
     round_agrees (inr (inr (inr (inr p)))) (inr (inl q)) =
         absurd (fails_first 1 p (ended_fine before b q))
     round_agrees (inr (inr (inr (inr p)))) (inr (inr (inl q))) =
-        absurd (fails_first 3 p (told_fine before b q))
+        absurd (fails_first 3 p (inquired_fine before b q))
     round_agrees (inr (inr (inr (inr p)))) (inr (inr (inr (inl q)))) =
-        absurd (fails_first 2 p (told_all_fine before b q))
+        absurd (fails_first 2 p (listed_fine before b q))
 
-abbrev heards : List Round → List Text
-heards rounds = map (λ (round : Round). round.heard) rounds
+abbrev all_received : List Round → List Text
+all_received rounds = map (λ (round : Round). round.received) rounds
 
--- rounds after one history in which the same is heard
+-- rounds after one history in which the same is received
 pub rounds_agree : (before : List (Line Text)) (a b : List Round) → AreRounds before a
-    → AreRounds before b → heards a ≡ heards b → AllByRecursion HasSufficed a
+    → AreRounds before b → all_received a ≡ all_received b → AllByRecursion HasSufficed a
     → AllByRecursion HasSufficed b → Agree a b
 rounds_agree before [] [] p q same room room' = tt
 rounds_agree before [] (b ∷ others) p q same room room' = absurd cc
 rounds_agree before (a ∷ more) [] p q same room room' = absurd cc
 rounds_agree before (a ∷ more) (b ∷ others) p q same room room' =
-    let first : a.heard ≡ b.heard = cc in
-    let rest : heards more ≡ heards others = cc in
+    let first : a.received ≡ b.received = cc in
+    let rest : all_received more ≡ all_received others = cc in
     let agrees = round_agrees before a b first room.0 room'.0 p.0 q.0 in (
       agrees,
       rounds_agree (before ++ b.lines) more others
@@ -180,16 +180,16 @@ rounds_agree before (a ∷ more) (b ∷ others) p q same room room' =
     )
 
 -- and in which nobody asks why a name is out of date
-pub same_rounds : (a b : List Round) → heards a ≡ heards b → Agree a b
-    → AllByRecursion (λ round. ¬ (AsksWhy round.heard)) a → a ≡ b
+pub same_rounds : (a b : List Round) → all_received a ≡ all_received b → Agree a b
+    → AllByRecursion (λ round. ¬ (AsksWhy round.received)) a → a ≡ b
 same_rounds [] [] same agree no_why = refl
 same_rounds [] (b ∷ others) same agree no_why = absurd agree
 same_rounds (a ∷ more) [] same agree no_why = absurd agree
 same_rounds (a ∷ more) (b ∷ others) same agree no_why =
-    let heard : a.heard ≡ b.heard = cc in
+    let received : a.received ≡ b.received = cc in
     let lines = agree.0.lines in
-    let said = agree.0.said no_why.0 in
-    let first : a ≡ b = λ i. record { heard = heard i; lines = lines i; said = said i } in
-    let rest : heards more ≡ heards others = cc in
+    let output = agree.0.output no_why.0 in
+    let first : a ≡ b = λ i. record { received = received i; lines = lines i; output = output i } in
+    let rest : all_received more ≡ all_received others = cc in
     let all = same_rounds more others rest agree.1 no_why.1 in
     λ i. first i ∷ all i

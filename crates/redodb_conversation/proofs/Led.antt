@@ -21,8 +21,8 @@ use Rattle.redodb_text.proofs.ScriptParts.{with_names-append}
 use Rattle.redodb_history.proofs.KnownNames.{AreKnown, with_names-known}
 use Rattle.redodb_live.specs.Answers.{AnswersInquiry, names_line}
 use Rattle.redodb_live.specs.Lines.{names_after}
-use Rattle.redodb_conversation.specs.Rounds.{Round, IsRound, IsAnswered, IsEnded, IsTold, IsToldAll, IsFaulty, AreRounds, lines_in, IsFaultWord, Asks, fault_text_of, HasNoSession}
-use Rattle.redodb_conversation.specs.Support.Steps.{Known, LeadsTo, Answering, Ending, Telling, TellingAll, Refusing, IsStep, AreSteps}
+use Rattle.redodb_conversation.specs.Rounds.{Round, IsRound, IsAnswered, IsEnded, IsInquired, IsListed, IsFaulty, AreRounds, lines_in, IsFaultWord, Asks, fault_text_of, HasNoSession}
+use Rattle.redodb_conversation.specs.Support.Steps.{Known, LeadsTo, Answering, Ending, Inquiring, Listing, Refusing, IsStep, AreSteps}
 
 -- the names after more lines
 names_more : (before more : List (Line Text)) → names_after (before ++ more)
@@ -105,11 +105,11 @@ module _ (before : List (Line Text)) (old new : Known) (round : Round) (led : Le
       line = step.line;
       text = step.text;
       asks = step.asks;
-      says = step.says;
+      parsed = step.parsed;
       few_names = subst (λ ns. length ns ≤ 16777216) (answering_names step) step.few_names;
       answers = answering_answers step;
       lines_are = step.lines_are;
-      said_is = step.said_is;
+      output_is = step.output_is;
     }
 
     answering_leads : Answering old new round → LeadsTo (before ++ round.lines) new
@@ -132,18 +132,18 @@ module _ (before : List (Line Text)) (old new : Known) (round : Round) (led : Le
     refusing_round : Refusing old new round → IsFaulty before round
     refusing_round step = record { none = step.none; cause = cause step.cause }
       where
-        cause : (HasNoSession round.heard
-            × (round.said ≡ fault_text_of (codes "0") (codes "bad-session")))
-            ⊎ ((s : ℕ) × (text : Text) × (word : Text) × Asks round.heard s text
+        cause : (HasNoSession round.received
+            × (round.output ≡ fault_text_of (codes "0") (codes "bad-session")))
+            ⊎ ((s : ℕ) × (text : Text) × (word : Text) × Asks round.received s text
             × IsFaultWord old.calls old.names text word
-            × (round.said ≡ fault_text_of (decimal (s + 1)) word))
-            → (HasNoSession round.heard
-            × (round.said ≡ fault_text_of (codes "0") (codes "bad-session")))
-            ⊎ ((s : ℕ) × (text : Text) × (word : Text) × Asks round.heard s text
+            × (round.output ≡ fault_text_of (decimal (s + 1)) word))
+            → (HasNoSession round.received
+            × (round.output ≡ fault_text_of (codes "0") (codes "bad-session")))
+            ⊎ ((s : ℕ) × (text : Text) × (word : Text) × Asks round.received s text
             × IsFaultWord (length before) (names_after before) text word
-            × (round.said ≡ fault_text_of (decimal (s + 1)) word))
+            × (round.output ≡ fault_text_of (decimal (s + 1)) word))
         cause (inl none) = inl none
-        cause (inr (s, text, word, asks, is, said)) =
+        cause (inr (s, text, word, asks, is, output)) =
             inr (
               s,
               text,
@@ -151,7 +151,7 @@ module _ (before : List (Line Text)) (old new : Known) (round : Round) (led : Le
               asks,
               subst (λ ns. IsFaultWord (length before) ns text word) led.names_are
                   (word_later old.calls (length before) old.names text word led.few_calls is),
-              said,
+              output,
             )
 
     -- a step that changes nothing
@@ -160,23 +160,23 @@ module _ (before : List (Line Text)) (old new : Known) (round : Round) (led : Le
         led_by [] none (subst (λ ls. LeadsTo ls new) (sym (append-nil before))
         (subst (LeadsTo before) (sym same) led))
 
-    telling_round : Telling old new round → IsTold before round
-    telling_round step = record {
+    inquiring_round : Inquiring old new round → IsInquired before round
+    inquiring_round step = record {
       session = step.session;
       inquiry = step.inquiry;
       name = step.name;
       asks = step.asks;
       fits = step.fits;
-      tells = subst (λ st. AnswersInquiry st step.session step.inquiry step.name round.said)
-          led.state_is step.tells.is;
+      answers = subst (λ st. AnswersInquiry st step.session step.inquiry step.name round.output)
+          led.state_is step.answers.is;
       none = step.none;
     }
 
-    telling_all_round : TellingAll old new round → IsToldAll before round
-    telling_all_round step = record {
+    listing_round : Listing old new round → IsListed before round
+    listing_round step = record {
       session = step.session;
       asks = step.asks;
-      tells = step.tells
+      answers = step.answers
           ∙ (λ i. names_line step.session (led.names_are i) (led.state_is i));
       none = step.none;
     }
@@ -205,7 +205,7 @@ module _ (before : List (Line Text)) (old new : Known) (round : Round) (led : Le
           (closing_each step.session (left_by texts empty before) step.held);
       closes = subst (ClosesAfter texts (part_of step.session before)) (sym (closing_is step))
           (closing_laws step).0;
-      said_is = step.said_is;
+      output_is = step.output_is;
     }
 
     ending_names : (step : Ending old new round) → names_after (before ++ round.lines) ≡ old.names
@@ -230,8 +230,8 @@ module _ (before : List (Line Text)) (old new : Known) (round : Round) (led : Le
     step_is_round : IsStep old new round → IsRound before round
     step_is_round (inl step) = inl (answering_round step)
     step_is_round (inr (inl step)) = inr (inl (ending_round step))
-    step_is_round (inr (inr (inl step))) = inr (inr (inl (telling_round step)))
-    step_is_round (inr (inr (inr (inl step)))) = inr (inr (inr (inl (telling_all_round step))))
+    step_is_round (inr (inr (inl step))) = inr (inr (inl (inquiring_round step)))
+    step_is_round (inr (inr (inr (inl step)))) = inr (inr (inr (inl (listing_round step))))
     step_is_round (inr (inr (inr (inr step)))) = inr (inr (inr (inr (refusing_round step))))
 
     step_leads : IsStep old new round → LeadsTo (before ++ round.lines) new

@@ -4,7 +4,7 @@ pub mod LongLines
 pub mod LongQuestions
 pub mod Prefixes
 pub mod Responding
-pub mod RoundTold
+pub mod RoundReplied
 pub mod LoggedPrefixes
 pub mod Asking
 pub mod Steps

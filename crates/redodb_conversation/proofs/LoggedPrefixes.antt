@@ -23,7 +23,7 @@ answering_prefix old new round is =
     let line = is.line in
     let (rest, e) = one_prefix line (changes old.state.records line.command line.reply) in (
       rest,
-      is.said_is ∙ e ∙ ap (λ ls. logged_of old.state ls ++ rest) (sym is.lines_are),
+      is.output_is ∙ e ∙ ap (λ ls. logged_of old.state ls ++ rest) (sym is.lines_are),
     )
 
 ending_prefix : (old new : Known) (round : Round) → Ending old new round
@@ -33,13 +33,13 @@ ending_prefix old new round is =
     ap (changing_from texts old.state) is.lines_are
     ∙ closing_changes is.session old.state is.held old.state ∙ sym is.lines_are in (
       end_text_of is.session,
-      is.said_is ∙ ap (λ ls. lines_text_of ls ++ end_text_of is.session) (sym all),
+      is.output_is ∙ ap (λ ls. lines_text_of ls ++ end_text_of is.session) (sym all),
     )
 
 -- if no line was made nothing is logged
 none_prefix : (old : Known) (round : Round) → round.lines ≡ [] → LogsPrefix old.state round
 none_prefix old round none =
-    (round.said, ap (λ ls. logged_of old.state ls ++ round.said) (sym none))
+    (round.output, ap (λ ls. logged_of old.state ls ++ round.output) (sym none))
 
 pub logs_prefix : (old new : Known) (round : Round) → IsStep old new round
     → LogsPrefix old.state round

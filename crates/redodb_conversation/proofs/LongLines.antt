@@ -45,9 +45,9 @@ asks_with_more whole s text (few, parts) =
           ∙ append_assoc (prefix_of s) text rest,
     )
 
-asked_length : (heard : Text) (s : ℕ) (text : Text) → Asks heard s text
-    → length heard ≤ 6 + length text
-asked_length heard s text (few, parts) =
+asked_length : (received : Text) (s : ℕ) (text : Text) → Asks received s text
+    → length received ≤ 6 + length text
+asked_length received s text (few, parts) =
     omega (arith, ap length parts, length-append (prefix_of s) text, prefix_is_short s few)
 
 -- a word that is short is not a long text with more
@@ -78,77 +78,77 @@ fault_of_more calls names text more word long (inr (inr (other, another, none, e
       worn,
     ))
 
-module _ (old new : Known) (round : Round) (whole : Text) (heard : round.heard ≡ kept_of whole)
+module _ (old new : Known) (round : Round) (whole : Text) (received : round.received ≡ kept_of whole)
   where
-    module _ (long : length round.heard ≡ 8199) where
-      refusing_whole : Refusing old new round → Refusing old new (record round { heard = whole })
+    module _ (long : length round.received ≡ 8199) where
+      refusing_whole : Refusing old new round → Refusing old new (record round { received = whole })
       refusing_whole step = record {
         same = step.same;
         none = step.none;
         cause = cause step.cause;
       }
         where
-          cause : (HasNoSession round.heard
-              × (round.said ≡ fault_text_of (codes "0") (codes "bad-session")))
-              ⊎ ((s : ℕ) × (text : Text) × (word : Text) × Asks round.heard s text
+          cause : (HasNoSession round.received
+              × (round.output ≡ fault_text_of (codes "0") (codes "bad-session")))
+              ⊎ ((s : ℕ) × (text : Text) × (word : Text) × Asks round.received s text
               × IsFaultWord old.calls old.names text word
-              × (round.said ≡ fault_text_of (decimal (s + 1)) word))
+              × (round.output ≡ fault_text_of (decimal (s + 1)) word))
               → (HasNoSession whole
-              × (round.said ≡ fault_text_of (codes "0") (codes "bad-session")))
+              × (round.output ≡ fault_text_of (codes "0") (codes "bad-session")))
               ⊎ ((s : ℕ) × (text : Text) × (word : Text) × Asks whole s text
               × IsFaultWord old.calls old.names text word
-              × (round.said ≡ fault_text_of (decimal (s + 1)) word))
-          cause (inl (none, said)) =
+              × (round.output ≡ fault_text_of (decimal (s + 1)) word))
+          cause (inl (none, output)) =
               inl (
                 (λ s text asks. none s (take (8199 - length (prefix_of s)) text)
-                    (subst (λ h. Asks h s (take (8199 - length (prefix_of s)) text)) (sym heard)
+                    (subst (λ h. Asks h s (take (8199 - length (prefix_of s)) text)) (sym received)
                     (asks_in_prefix whole s text asks))),
-                said,
+                output,
               )
-          cause (inr (s, text, word, asks, is, said)) =
+          cause (inr (s, text, word, asks, is, output)) =
               inr (
                 s,
                 text ++ drop 8199 whole,
                 word,
-                asks_with_more whole s text (subst (λ h. Asks h s text) heard asks),
+                asks_with_more whole s text (subst (λ h. Asks h s text) received asks),
                 fault_of_more old.calls old.names text (drop 8199 whole) word
-                    (omega (arith, asked_length round.heard s text asks, long)) is,
-                said,
+                    (omega (arith, asked_length round.received s text asks, long)) is,
+                output,
               )
 
-      long_step : IsStep old new round → IsStep old new (record round { heard = whole })
+      long_step : IsStep old new round → IsStep old new (record round { received = whole })
       long_step (inl step) =
           absurd (omega (
             arith,
-            asked_length round.heard step.line.session step.text step.asks,
-            step.says.1,
+            asked_length round.received step.line.session step.text step.asks,
+            step.parsed.1,
             long,
           ))
       long_step (inr (inl step)) =
-          absurd (omega (arith, asked_length round.heard step.session end_word step.asks, long))
+          absurd (omega (arith, asked_length round.received step.session end_word step.asks, long))
       long_step (inr (inr (inl step))) =
           let text = inquiry_text_of step.inquiry step.name in
           absurd (omega (
             arith,
-            asked_length round.heard step.session text step.asks,
+            asked_length round.received step.session text step.asks,
             fits_is_short text step.fits,
             long,
           ))
       long_step (inr (inr (inr (inl step)))) =
-          absurd (omega (arith, asked_length round.heard step.session names_word step.asks, long))
+          absurd (omega (arith, asked_length round.received step.session names_word step.asks, long))
       long_step (inr (inr (inr (inr step)))) = inr (inr (inr (inr (refusing_whole step))))
 
     -- the answer to what is kept of a line is the answer to the line
-    step_of_kept : IsStep old new round → IsStep old new (record round { heard = whole })
+    step_of_kept : IsStep old new round → IsStep old new (record round { received = whole })
     step_of_kept step = elim (cases_lt (length whole) 8199) [
-      | inl short ↦ subst (λ h. IsStep old new (record round { heard = h }))
-          (heard ∙ take_all 8199 whole (omega arith)) step
-      | inr long ↦ long_step (ap length heard ∙ length-take-le 8199 whole long) step
+      | inl short ↦ subst (λ h. IsStep old new (record round { received = h }))
+          (received ∙ take_all 8199 whole (omega arith)) step
+      | inr long ↦ long_step (ap length received ∙ length-take-le 8199 whole long) step
     ]
 
 pub step_of_whole : (old new : Known) (round : Round) (whole : Text)
-    → (round.heard ≡ whole) ⊎ (round.heard ≡ kept_of whole) → IsStep old new round
-    → IsStep old new (record round { heard = whole })
+    → (round.received ≡ whole) ⊎ (round.received ≡ kept_of whole) → IsStep old new round
+    → IsStep old new (record round { received = whole })
 step_of_whole old new round whole (inl same) step =
-    subst (λ h. IsStep old new (record round { heard = h })) same step
+    subst (λ h. IsStep old new (record round { received = h })) same step
 step_of_whole old new round whole (inr kept) step = step_of_kept old new round whole kept step

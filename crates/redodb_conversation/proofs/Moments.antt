@@ -8,7 +8,7 @@ use Rattle.redodb_model.proofs.OneMore.{left_by-append}
 use Rattle.redodb_log.specs.Operations.{Operation, Append, Sync, Write, LogFailed, OutputFailed, HasNoFailure, IsPrefix, IsAlways, held_after, is_copy, written_by}
 use Rattle.redodb_log.specs.Restores.{IsDamagedAfter}
 use Rattle.redodb_conversation.specs.Logs.{HasNoEnd, logged_of}
-use Rattle.redodb_conversation.specs.Rounds.{Round, lines_in, said_in}
+use Rattle.redodb_conversation.specs.Rounds.{Round, lines_in, output_in}
 use Rattle.redodb_conversation.specs.Talks.{Former, AreLines, BeginsBy, HasNoCopy, IsLogAfter, IsSalvaged, history_of, lines_after, output_of, greeting_of, state_after}
 use Rattle.redodb_conversation.specs.Support.Moments.{Start, IsSafe}
 use Rattle.redodb_conversation.specs.Support.Sending.{after_logging}
@@ -79,7 +79,7 @@ begins_after_logging bytes former false logged done begins =
     begins_more bytes former (Append logged) done refl begins
 
 -- one more line was read
-pub lines_more : (rounds : List Round) (round : Round) → AreLines rounds → HasNoEnd round.heard
+pub lines_more : (rounds : List Round) (round : Round) → AreLines rounds → HasNoEnd round.received
     → AreLines (rounds ++ round ∷ [])
 lines_more [] round are free = (free, tt)
 lines_more (first ∷ rounds) round are free = (are.0, lines_more rounds round are.1 free)
@@ -170,11 +170,11 @@ log_at_first former first = record {
 -- the output after more rounds
 pub output_more : (version : Text) (former : Former) (rounds more : List Round)
     → output_of version former (rounds ++ more)
-    ≡ output_of version former rounds ++ said_in more
+    ≡ output_of version former rounds ++ output_in more
 output_more version former rounds more =
     let greeting = greeting_of version former in
-    ap (λ t. greeting ++ t) (flat_map-append (λ r. r.said) rounds more)
-    ∙ sym (append_assoc greeting (said_in rounds) (said_in more))
+    ap (λ t. greeting ++ t) (flat_map-append (λ r. r.output) rounds more)
+    ∙ sym (append_assoc greeting (output_in rounds) (output_in more))
 
 -- more rounds are answered
 safe_more : (start : Start) (rounds more : List Round) (now : List Operation)

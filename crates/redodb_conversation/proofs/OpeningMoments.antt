@@ -378,7 +378,7 @@ module _ (sync salvage : Bool) (version : Text) (past : Past) (bytes : Text) (op
           calls = calls_in opened.live;
         };
         lines = tt;
-        heard = Consumes-nil left;
+        received = Consumes-nil left;
         begins = begins_written opened.greeting.items;
         fine = (refl, is_ready.fine);
         always = written_always opened.greeting.items (prefix_self opened.greeting.items);
@@ -388,5 +388,5 @@ module _ (sync salvage : Bool) (version : Text) (past : Past) (bytes : Text) (op
         to_log = refl;
         output = written_is opened.greeting.items ∙ is.greeting
             ∙ sym (append-nil (greeting_of version is.former));
-        to_say = refl;
+        to_write = refl;
       }

@@ -8,7 +8,7 @@ use Rattle.redodb_model.specs.Names.{Text}
 use Rattle.redodb_model.proofs.Members.{contains_none}
 use Rattle.redodb_history.specs.Histories.{ended}
 use Rattle.redodb_conversation.specs.Logs.{HasNoEnd}
-use Rattle.redodb_conversation.specs.Support.KeptLines.{kept_of, IsPrefixOf, IsHeardOf}
+use Rattle.redodb_conversation.specs.Support.KeptLines.{kept_of, IsPrefixOf, IsReceivedOf}
 
 pub no_end_both : (a b : Text) → HasNoEnd a → HasNoEnd b → HasNoEnd (a ++ b)
 no_end_both a b x y is = elim (Contains-append_cases a b 10 is) [
@@ -55,17 +55,17 @@ nothing_begun begun [] is e = none_from_prefix begun is.kept
 nothing_begun begun (b ∷ bs) is e = absurd (omega (arith, e))
 
 -- what is kept of a line that ends with this piece
-pub heard_behind : (begun prefix piece line : Text) → IsPrefixOf begun prefix → HasNoEnd piece
-    → line ≡ kept_of (prefix ++ piece) → IsHeardOf (begun ++ piece) line
-heard_behind begun prefix piece line is free e = record {
+pub received_behind : (begun prefix piece line : Text) → IsPrefixOf begun prefix → HasNoEnd piece
+    → line ≡ kept_of (prefix ++ piece) → IsReceivedOf (begun ++ piece) line
+received_behind begun prefix piece line is free e = record {
   unended = no_end_both begun piece is.unended free;
   is = inr (e ∙ ap (λ t. kept_of (t ++ piece)) is.kept ∙ kept_more begun piece);
 }
 
 -- a line of which nothing was kept
-pub heard_at_once : (begun prefix piece : Text) → IsPrefixOf begun prefix → HasNoEnd piece
-    → length prefix ≡ 0 → IsHeardOf (begun ++ piece) piece
-heard_at_once begun prefix piece is free none = record {
+pub received_at_once : (begun prefix piece : Text) → IsPrefixOf begun prefix → HasNoEnd piece
+    → length prefix ≡ 0 → IsReceivedOf (begun ++ piece) piece
+received_at_once begun prefix piece is free none = record {
   unended = no_end_both begun piece is.unended free;
   is = inl (sym (ap (λ t. t ++ piece) (nothing_begun begun prefix is none)));
 }

@@ -6,7 +6,7 @@ use Rattle.redodb_model.specs.History.{Line}
 use Rattle.redodb_live.specs.Support.LiveState.{LiveState}
 use Rattle.redodb_log.specs.Logs.{AreLogged}
 use Rattle.redodb_log.specs.Operations.{Operation, Replace, LogFailed, IsAlways, written_by}
-use Rattle.redodb_conversation.specs.Rounds.{Round, heard_in}
+use Rattle.redodb_conversation.specs.Rounds.{Round, received_in}
 use Rattle.redodb_conversation.specs.Talks.{AreLines, IsLogAfter, history_of, lines_after, output_of}
 use Rattle.std.specs.Io.KnownBytes.{Consumes}
 use Rattle.redodb_conversation.specs.Support.LeftBy.{IsLeftBy}
@@ -76,7 +76,7 @@ module _ (start : Start) (live : LiveState) (left : Option Text) (done : List Op
         written : written_by done ≡ output_of start.version start.former rounds
         written =
             way.output ∙ sym (append-nil (output_of start.version start.former way.sent))
-            ∙ ap (λ t. output_of start.version start.former way.sent ++ t) (sym way.to_say)
+            ∙ ap (λ t. output_of start.version start.former way.sent ++ t) (sym way.to_write)
             ∙ sym (output_more start.version start.former way.sent way.kept)
 
         safe : IsSafe start rounds replaced
@@ -110,8 +110,8 @@ module _ (start : Start) (live : LiveState) (left : Option Text) (done : List Op
               kept = [];
               steps = subst (AreSteps (known_first start) now.known) (sym none) way.steps;
               lines = subst AreLines (sym none) way.lines;
-              heard = subst (λ rs. Consumes start.left left (heard_in rs ++ more)) (sym none)
-                  way.heard;
+              received = subst (λ rs. Consumes start.left left (received_in rs ++ more)) (sym none)
+                  way.received;
               begins = begins_more start.bytes start.former (Replace dump) done refl way.begins;
               fine = (refl, way.fine);
               always = subst (λ rs. IsAlways (IsSafe start rs) replaced) (sym none) always;
@@ -119,7 +119,7 @@ module _ (start : Start) (live : LiveState) (left : Option Text) (done : List Op
               disk = on_disk start.sync;
               to_log = refl;
               output = written;
-              to_say = refl;
+              to_write = refl;
             }
 
         -- and then the log failed
@@ -131,7 +131,7 @@ module _ (start : Start) (live : LiveState) (left : Option Text) (done : List Op
           more = more;
           steps = way.steps;
           lines = way.lines;
-          heard = way.heard;
+          received = way.received;
           begins = begins_more start.bytes start.former LogFailed replaced refl
               (begins_more start.bytes start.former (Replace dump) done refl way.begins);
           stops = (refl, way.fine);

@@ -93,7 +93,7 @@ module _ (keeping : Keeping) (version : Text) (past : Past) (bytes : Text) (open
         are_rounds = steps_are_rounds (history_of is.former) (known_first start) broken.known
             broken.rounds led broken.steps;
         are_lines = broken.lines;
-        heard = broken.heard;
+        received = broken.received;
         first = first;
         is_first = is_first;
         always = broken.always;
@@ -109,7 +109,7 @@ module _ (keeping : Keeping) (version : Text) (past : Past) (bytes : Text) (open
         all_written : output_of version is.former way.sent ≡ output_of version is.former rounds
         all_written =
             sym (append-nil (output_of version is.former way.sent))
-            ∙ ap (λ t. output_of version is.former way.sent ++ t) (sym way.to_say)
+            ∙ ap (λ t. output_of version is.former way.sent ++ t) (sym way.to_write)
             ∙ sym (output_more version is.former way.sent way.kept)
 
     -- all that was read was answered
@@ -135,7 +135,7 @@ module _ (keeping : Keeping) (version : Text) (past : Past) (bytes : Text) (open
               are_rounds = steps_are_rounds (history_of is.former) (known_first start) known rounds
                   led way.steps;
               are_lines = way.lines;
-              heard = way.heard;
+              received = way.received;
               first = first;
               is_first = is_first;
               always = way.always;
@@ -160,7 +160,7 @@ module _ (keeping : Keeping) (version : Text) (past : Past) (bytes : Text) (open
           more = [];
           steps = refl;
           lines = tt;
-          heard = Consumes-nil input;
+          received = Consumes-nil input;
           begins = begins;
           stops = stops;
           always = always;

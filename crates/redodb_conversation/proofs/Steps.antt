@@ -23,11 +23,11 @@ use Rattle.redodb_live.specs.Answers.{names_line}
 use Rattle.redodb_live.specs.Support.AnswerForms.{AnswersInForm}
 use Rattle.redodb_live.specs.Support.Answered.{logged_text}
 use Rattle.redodb_live.specs.Support.LiveState.{LiveState, IsAsKnown, state_in}
-use Rattle.redodb_live.specs.Support.Told.{AnswersText, EndsSession}
+use Rattle.redodb_live.specs.Support.Appended.{AnswersText, EndsSession}
 use Rattle.redodb_live.specs.Lines.{lines_text_of}
 use Rattle.redodb_conversation.specs.Rounds.{Round, Asks, end_word, end_text_of, names_word}
 use Rattle.redodb_conversation.specs.Logs.{logged_of}
-use Rattle.redodb_conversation.specs.Support.Steps.{Answering, Ending, Telling, TellingAll}
+use Rattle.redodb_conversation.specs.Support.Steps.{Answering, Ending, Inquiring, Listing}
 use Rattle.redodb_conversation.specs.Support.Places.{known_of}
 
 -- what one line logs
@@ -90,23 +90,23 @@ pub as_known : (old new : LiveState) → IsAsKnown old new → known_of new ≡ 
 as_known old new same =
     λ i. record { names = same.names i; state = same.state i; calls = same.calls i }
 
-module _ (old new : LiveState) (heard : Text) (session : ℕ) where
+module _ (old new : LiveState) (received : Text) (session : ℕ) where
   -- a command that was answered
-  pub answering_step : (text said said' logged logged' : Text) → Asks heard session text
-      → AnswersText old new session text said said' logged logged'
-      → (round : Round) × (round.heard ≡ heard) × Answering (known_of old) (known_of new) round
-      × (said' ≡ said ++ round.said)
+  pub answering_step : (text output output' logged logged' : Text) → Asks received session text
+      → AnswersText old new session text output output' logged logged'
+      → (round : Round) × (round.received ≡ received) × Answering (known_of old) (known_of new) round
+      × (output' ≡ output ++ round.output)
       × (logged' ≡ logged ++ logged_of (state_in old) round.lines)
-  answering_step text said said' logged logged' asks is =
+  answering_step text output output' logged logged' asks is =
       let line = is.line in
       let same = is.is.session_is in (
-        record { heard = heard; lines = line ∷ []; said = line_text_of line },
+        record { received = received; lines = line ∷ []; output = line_text_of line },
         refl,
         record {
           line = line;
           text = text;
-          asks = subst (λ s. Asks heard s text) (sym same) asks;
-          says = is.is.said;
+          asks = subst (λ s. Asks received s text) (sym same) asks;
+          parsed = is.is.parsed;
           names_are = is.is.named.0
               ∙ ap (with_names old.names) (append-nil (names_in line.command));
           few_names = is.is.named.1;
@@ -114,30 +114,30 @@ module _ (old new : LiveState) (heard : Text) (session : ℕ) where
               is.is.answers;
           state_is = is.is.after_is
               ∙ ap (λ s. after texts (state_in old) s line.command) (sym same);
-          calls_are = is.told.calls;
+          calls_are = is.appended.calls;
           lines_are = refl;
-          said_is = refl;
+          output_is = refl;
         },
-        is.told.says,
-        is.told.logs ∙ ap (λ t. logged ++ t) (one_logged (state_in old) line),
+        is.appended.writes,
+        is.appended.logs ∙ ap (λ t. logged ++ t) (one_logged (state_in old) line),
       )
 
   -- a session that ended
-  pub ending_step : (said said' logged logged' : Text) → Asks heard session end_word
-      → EndsSession old new session said said' logged logged'
-      → (round : Round) × (round.heard ≡ heard) × Ending (known_of old) (known_of new) round
-      × (said' ≡ said ++ round.said)
+  pub ending_step : (output output' logged logged' : Text) → Asks received session end_word
+      → EndsSession old new session output output' logged logged'
+      → (round : Round) × (round.received ≡ received) × Ending (known_of old) (known_of new) round
+      × (output' ≡ output ++ round.output)
       × (logged' ≡ logged ++ logged_of (state_in old) round.lines)
-  ending_step said said' logged logged' asks is =
+  ending_step output output' logged logged' asks is =
       let lines = is.lines in
       let targets = is.is.targets in
       let all : changing_from texts (state_in old) lines ≡ lines =
       ap (changing_from texts (state_in old)) is.is.lines_are
       ∙ closing_changes session (state_in old) targets (state_in old) ∙ sym is.is.lines_are in (
         record {
-          heard = heard;
+          received = received;
           lines = lines;
-          said = flat_map line_text_of lines ++ end_text_of session;
+          output = flat_map line_text_of lines ++ end_text_of session;
         },
         refl,
         record {
@@ -150,30 +150,30 @@ module _ (old new : LiveState) (heard : Text) (session : ℕ) where
           state_is = is.is.left;
           calls_are = is.calls;
           lines_are = is.is.lines_are;
-          said_is = refl;
+          output_is = refl;
         },
-        is.says,
+        is.writes,
         is.logs ∙ ap (λ ls. logged ++ lines_text_of ls) (sym all),
       )
 
   -- an answer about a name
-  pub telling_step : (text : Text) (inquiry : Inquiry) (name line said said' logged : Text)
-      → Asks heard session text → text ≡ inquiry_text_of inquiry name → inquiry_fault text ≡ None
+  pub inquiring_step : (text : Text) (inquiry : Inquiry) (name line output output' logged : Text)
+      → Asks received session text → text ≡ inquiry_text_of inquiry name → inquiry_fault text ≡ None
       → AnswersInForm (state_in old) session inquiry name line → IsAsKnown old new
-      → said' ≡ said ++ line
-      → (round : Round) × (round.heard ≡ heard) × Telling (known_of old) (known_of new) round
-      × (said' ≡ said ++ round.said)
+      → output' ≡ output ++ line
+      → (round : Round) × (round.received ≡ received) × Inquiring (known_of old) (known_of new) round
+      × (output' ≡ output ++ round.output)
       × (logged ≡ logged ++ logged_of (state_in old) round.lines)
-  telling_step text inquiry name line said said' logged asks is fits tells same e = (
-    record { heard = heard; lines = []; said = line },
+  inquiring_step text inquiry name line output output' logged asks is fits answers same e = (
+    record { received = received; lines = []; output = line },
     refl,
     record {
       session = session;
       inquiry = inquiry;
       name = name;
-      asks = subst (Asks heard session) is asks;
+      asks = subst (Asks received session) is asks;
       fits = subst (λ t. inquiry_fault t ≡ None) is fits;
-      tells = tells;
+      answers = answers;
       same = as_known old new same;
       none = refl;
     },
@@ -182,18 +182,18 @@ module _ (old new : LiveState) (heard : Text) (session : ℕ) where
   )
 
   -- the answer about all names
-  pub telling_all_step : (said said' logged : Text) → Asks heard session names_word
-      → IsAsKnown old new → said' ≡ said ++ names_line session old.names (state_in old)
-      → (round : Round) × (round.heard ≡ heard) × TellingAll (known_of old) (known_of new) round
-      × (said' ≡ said ++ round.said)
+  pub listing_step : (output output' logged : Text) → Asks received session names_word
+      → IsAsKnown old new → output' ≡ output ++ names_line session old.names (state_in old)
+      → (round : Round) × (round.received ≡ received) × Listing (known_of old) (known_of new) round
+      × (output' ≡ output ++ round.output)
       × (logged ≡ logged ++ logged_of (state_in old) round.lines)
-  telling_all_step said said' logged asks same e = (
-    record { heard = heard; lines = []; said = names_line session old.names (state_in old) },
+  listing_step output output' logged asks same e = (
+    record { received = received; lines = []; output = names_line session old.names (state_in old) },
     refl,
     record {
       session = session;
       asks = asks;
-      tells = refl;
+      answers = refl;
       same = as_known old new same;
       none = refl;
     },

@@ -6,7 +6,7 @@ use Rattle.redodb_model.specs.Names.{Text}
 use Rattle.redodb_live.specs.Support.LiveState.{LiveState}
 use Rattle.redodb_log.specs.Operations.{Operation}
 use Rattle.redodb_conversation.specs.Logs.{HasNoEnd}
-use Rattle.redodb_conversation.specs.Rounds.{heard_in}
+use Rattle.redodb_conversation.specs.Rounds.{received_in}
 use Rattle.redodb_conversation.specs.Support.Moments.{Start, IsBrokenOff}
 use Rattle.redodb_conversation.specs.Support.Places.{TalksAt, as_place, idle_place, known_of}
 use Rattle.redodb_conversation.specs.Support.Steps.{Known}
@@ -16,22 +16,22 @@ use Rattle.redodb_conversation.specs.declared.sending.Unsent.{Unsent}
 use Rattle.redodb_conversation.specs.declared.fault.ServeFault.{ServeFault}
 use Rattle.redodb_conversation.specs.declared.fault.ServeFault.TheVariants.{Memory, Worn, State, Differs, Log, Read, TooLong, Write}
 use Rattle.redodb_conversation.proofs.Responding.{place, same_waiting}
-use Rattle.redodb_conversation.proofs.UnderWay.{heard_more}
+use Rattle.redodb_conversation.proofs.UnderWay.{received_more}
 
 module _ (start : Start) (known : Known) (left left' : Option Text) (done : List Operation)
-    (logged said begun : Text)
-    (talk : TalksAt start left (place known done logged said) begun)
+    (logged output begun : Text)
+    (talk : TalksAt start left (place known done logged output) begun)
   where
     -- a read that failed took nothing
-    pub kept_left : Keeps left left' → TalksAt start left' (place known done logged said) begun
+    pub kept_left : Keeps left left' → TalksAt start left' (place known done logged output) begun
     kept_left same = record {
       is_start = talk.is_start;
       sent = talk.sent;
       kept = talk.kept;
       steps = talk.steps;
       lines = talk.lines;
-      heard = Consumes-kept start.left left left' (heard_in (talk.sent ++ talk.kept) ++ begun)
-          talk.heard same;
+      received = Consumes-kept start.left left left' (received_in (talk.sent ++ talk.kept) ++ begun)
+          talk.received same;
       begins = talk.begins;
       fine = talk.fine;
       always = talk.always;
@@ -39,46 +39,46 @@ module _ (start : Start) (known : Known) (left left' : Option Text) (done : List
       disk = talk.disk;
       to_log = talk.to_log;
       output = talk.output;
-      to_say = talk.to_say;
+      to_write = talk.to_write;
     }
 
     -- a read gave more
     pub read_more : (bytes : Text) → Consumes left left' bytes
-        → TalksAt start left' (place known done logged said) (begun ++ bytes)
+        → TalksAt start left' (place known done logged output) (begun ++ bytes)
     read_more bytes taken =
-        heard_more start (record { known = known; left = left; done = done })
-        (record { said = said; logged = logged }) begun talk left' bytes taken
+        received_more start (record { known = known; left = left; done = done })
+        (record { output = output; logged = logged }) begun talk left' bytes taken
 
     -- a read gave nothing
-    pub read_none : Consumes left left' [] → TalksAt start left' (place known done logged said) begun
+    pub read_none : Consumes left left' [] → TalksAt start left' (place known done logged output) begun
     read_none taken =
-        subst (λ t. TalksAt start left' (place known done logged said) t) (append-nil begun)
+        subst (λ t. TalksAt start left' (place known done logged output) t) (append-nil begun)
         (read_more [] taken)
 
 -- where nothing waits
 module _ (start : Start) (left : Option Text) (live : LiveState) (done : List Operation)
     (unsent : Unsent) (more : Text) (none_logged : unsent.logged.items ≡ [])
-    (none_said : unsent.said.items ≡ [])
+    (none_output : unsent.output.items ≡ [])
   where
     pub none_waiting : TalksAt start left (as_place live done unsent) more
         → TalksAt start left (idle_place live done) more
     none_waiting talk =
-        same_waiting start left (known_of live) done unsent.logged.items unsent.said.items [] [] more
-        (sym none_logged) (sym none_said) talk
+        same_waiting start left (known_of live) done unsent.logged.items unsent.output.items [] [] more
+        (sym none_logged) (sym none_output) talk
 
     pub waiting_again : TalksAt start left (idle_place live done) more
         → TalksAt start left (as_place live done unsent) more
     waiting_again talk =
-        same_waiting start left (known_of live) done [] [] unsent.logged.items unsent.said.items more
-        none_logged none_said talk
+        same_waiting start left (known_of live) done [] [] unsent.logged.items unsent.output.items more
+        none_logged none_output talk
 
 -- nothing waits, and the line that began has no end
 pub answered_all : (start : Start) (known : Known) (left : Option Text) (done : List Operation)
-    (logged said begun : Text) → logged ≡ [] → said ≡ [] → HasNoEnd begun
-    → TalksAt start left (place known done logged said) begun
+    (logged output begun : Text) → logged ≡ [] → output ≡ [] → HasNoEnd begun
+    → TalksAt start left (place known done logged output) begun
     → HasAnsweredAll start known left done
-answered_all start known left done logged said begun e f free talk =
-    (begun, free, same_waiting start left known done logged said [] [] begun (sym e) (sym f) talk)
+answered_all start known left done logged output begun e f free talk =
+    (begun, free, same_waiting start left known done logged output [] [] begun (sym e) (sym f) talk)
 
 -- an operation failed
 pub send_cause_talks : (start : Start) (known : Known) (left : Option Text) (done : List Operation)

@@ -10,7 +10,7 @@ use Rattle.redodb_conversation.specs.Support.Steps.{Known, Refusing, IsStep}
 use Rattle.redodb_conversation.specs.Support.Unanswered.{IsMemoryFor}
 use Rattle.redodb_conversation.specs.declared.replying.Replied.{Replied}
 use Rattle.redodb_conversation.specs.declared.replying.Replied.TheVariants.{Done, Fault}
-use Rattle.redodb_conversation.proofs.RoundTold.{done_is_step}
+use Rattle.redodb_conversation.proofs.RoundReplied.{done_is_step}
 
 pub replied_is_step : (replied : Replied) (old new : Known) (round : Round)
     → IsReplied replied old new round → IsStep old new round
@@ -20,7 +20,7 @@ replied_is_step Fault old new round is = inr (inr (inr (inr is)))
 pub refusing_memory : (old new : LiveState) (line : Text) (number : ℕ) (word : Text)
     → IsAsKnown old new → IsMemoryFor line number word
     → Refusing (known_of old) (known_of new)
-    (record { heard = line; lines = []; said = fault_text_of (decimal number) word })
+    (record { received = line; lines = []; output = fault_text_of (decimal number) word })
 refusing_memory old new line number word same (inl (none, zero, is)) = record {
   same = λ i. record { names = same.names i; state = same.state i; calls = same.calls i };
   none = refl;

@@ -10,7 +10,7 @@ use Rattle.redodb_model.proofs.OneMore.{left_by-append}
 use Rattle.redodb_history.specs.Histories.{ended}
 use Rattle.redodb_log.specs.Operations.{Operation, Held, Append, Sync, Revert, Write, LogFailed, OutputFailed, HasNoFailure, StopsAtFailure, IsPrefix, IsAlways, held_after, written_by}
 use Rattle.redodb_conversation.specs.Logs.{HasNoEnd, logged_of}
-use Rattle.redodb_conversation.specs.Rounds.{Round, lines_in, heard_in, said_in}
+use Rattle.redodb_conversation.specs.Rounds.{Round, lines_in, received_in, output_in}
 use Rattle.redodb_conversation.specs.Talks.{AreLines, BeginsBy, IsLogAfter, history_of, output_of, state_after}
 use Rattle.redodb_conversation.specs.Support.Moments.{Start, Moment, Waiting, IsSafe, IsUnderWay, IsBrokenOff, known_first}
 use Rattle.redodb_conversation.specs.Support.Sending.{IsAppendedInPart, IsUnsynced, IsWrittenInPart, IsSentInPart, after_logging, sent_after}
@@ -58,9 +58,9 @@ module _ (start : Start) (now : Moment) (waiting : Waiting) (more : Text)
 
     -- a line was read and answered
     pub answered_more : (round : Round) (known : Known) (rest : Text)
-        → more ≡ ended round.heard ++ rest → HasNoEnd round.heard → IsStep now.known known round
+        → more ≡ ended round.received ++ rest → HasNoEnd round.received → IsStep now.known known round
         → IsUnderWay start (record now { known = known }) (record {
-          said = waiting.said ++ round.said;
+          output = waiting.output ++ round.output;
           logged = waiting.logged ++ logged_of now.known.state round.lines;
         }) rest
     answered_more round known rest e free step =
@@ -74,11 +74,11 @@ module _ (start : Start) (now : Moment) (waiting : Waiting) (more : Text)
           steps = subst (AreSteps (known_first start) known) assoc
               (steps_more (known_first start) now.known known rounds round way.steps step);
           lines = subst AreLines assoc (lines_more rounds round way.lines free);
-          heard = subst (Consumes start.left now.left)
-              (ap (λ t. heard_in rounds ++ t) e
-              ∙ sym (append_assoc (heard_in rounds) (ended round.heard) rest)
+          received = subst (Consumes start.left now.left)
+              (ap (λ t. received_in rounds ++ t) e
+              ∙ sym (append_assoc (received_in rounds) (ended round.received) rest)
               ∙ ap (λ t. t ++ rest)
-              (sym (in_more (λ r. ended r.heard) way.sent way.kept round))) way.heard;
+              (sym (in_more (λ r. ended r.received) way.sent way.kept round))) way.received;
           begins = way.begins;
           fine = way.fine;
           always = subst (λ rs. IsAlways (IsSafe start rs) now.done) assoc
@@ -91,22 +91,22 @@ module _ (start : Start) (now : Moment) (waiting : Waiting) (more : Text)
               ∙ ap (λ st. logged_of state (lines_in way.kept) ++ logged_of st round.lines) state_known
               ∙ ap (λ t. t ++ logged_of now.known.state round.lines) way.to_log;
           output = way.output;
-          to_say = flat_map-append (λ r. r.said) way.kept (round ∷ [])
-              ∙ ap (λ t. said_in way.kept ++ t) (append-nil round.said)
-              ∙ ap (λ t. t ++ round.said) way.to_say;
+          to_write = flat_map-append (λ r. r.output) way.kept (round ∷ [])
+              ∙ ap (λ t. output_in way.kept ++ t) (append-nil round.output)
+              ∙ ap (λ t. t ++ round.output) way.to_write;
         }
 
     -- more was read
-    pub heard_more : (left : Option Text) (bytes : Text) → Consumes now.left left bytes
+    pub received_more : (left : Option Text) (bytes : Text) → Consumes now.left left bytes
         → IsUnderWay start (record now { left = left }) waiting (more ++ bytes)
-    heard_more left bytes taken = record {
+    received_more left bytes taken = record {
       is_start = way.is_start;
       sent = way.sent;
       kept = way.kept;
       steps = way.steps;
       lines = way.lines;
-      heard = subst (Consumes start.left left) (append_assoc (heard_in rounds) more bytes)
-          (Consumes-trans start.left now.left left (heard_in rounds ++ more) bytes way.heard taken);
+      received = subst (Consumes start.left left) (append_assoc (received_in rounds) more bytes)
+          (Consumes-trans start.left now.left left (received_in rounds ++ more) bytes way.received taken);
       begins = way.begins;
       fine = way.fine;
       always = way.always;
@@ -114,7 +114,7 @@ module _ (start : Start) (now : Moment) (waiting : Waiting) (more : Text)
       disk = way.disk;
       to_log = way.to_log;
       output = way.output;
-      to_say = way.to_say;
+      to_write = way.to_write;
     }
 
     -- that is the log after all rounds
@@ -178,12 +178,12 @@ module _ (start : Start) (now : Moment) (waiting : Waiting) (more : Text)
         (written_after_logging waiting.logged now.done start.sync ∙ way.output)
 
     output_whole : output_of start.version start.former rounds
-        ≡ output_of start.version start.former way.sent ++ waiting.said
+        ≡ output_of start.version start.former way.sent ++ waiting.output
     output_whole =
         output_more start.version start.former way.sent way.kept
-        ∙ ap (λ t. output_of start.version start.former way.sent ++ t) way.to_say
+        ∙ ap (λ t. output_of start.version start.former way.sent ++ t) way.to_write
 
-    write_safe : (some : Text) → IsPrefix some waiting.said
+    write_safe : (some : Text) → IsPrefix some waiting.output
         → IsSafe start rounds (Write some ∷ logged)
     write_safe some (rest, e) =
         let then_held = held_after logged in
@@ -206,13 +206,13 @@ module _ (start : Start) (now : Moment) (waiting : Waiting) (more : Text)
               (all_after_logging waiting.logged now.done start.sync ∙ sym (append-nil whole_log));
         })
 
-    pub writes_safely : IsAlways (IsSafe start rounds) (Write waiting.said ∷ logged)
+    pub writes_safely : IsAlways (IsSafe start rounds) (Write waiting.output ∷ logged)
     writes_safely =
-        write_always (IsSafe start rounds) logged logs_safely waiting.said write_safe
+        write_always (IsSafe start rounds) logged logs_safely waiting.output write_safe
 
     -- what waited was sent
     pub all_sent : IsUnderWay start (record now {
-      done = sent_after start.sync waiting.logged waiting.said now.done;
+      done = sent_after start.sync waiting.logged waiting.output now.done;
     }) nothing more
     all_sent =
         let none = append-nil rounds in
@@ -223,18 +223,18 @@ module _ (start : Start) (now : Moment) (waiting : Waiting) (more : Text)
           kept = [];
           steps = subst (AreSteps (known_first start) now.known) (sym none) way.steps;
           lines = subst AreLines (sym none) way.lines;
-          heard = subst (λ rs. Consumes start.left now.left (heard_in rs ++ more)) (sym none)
-              way.heard;
-          begins = begins_more start.bytes start.former (Write waiting.said) logged refl
+          received = subst (λ rs. Consumes start.left now.left (received_in rs ++ more)) (sym none)
+              way.received;
+          begins = begins_more start.bytes start.former (Write waiting.output) logged refl
               begins_logged;
           fine = (refl, fine_logged);
-          always = subst (λ rs. IsAlways (IsSafe start rs) (Write waiting.said ∷ logged))
+          always = subst (λ rs. IsAlways (IsSafe start rs) (Write waiting.output ∷ logged))
               (sym none) writes_safely;
           log = subst (IsLogAfter start.former start.first rounds) (sym all_is) log_grown;
           disk = kept_after_logging waiting.logged now.done start.sync ∙ sym all_is;
           to_log = refl;
-          output = written_then waiting.said ∙ sym output_whole;
-          to_say = refl;
+          output = written_then waiting.output ∙ sym output_whole;
+          to_write = refl;
         }
 
     broken_by : (done : List Operation) → BeginsBy start.bytes start.former done
@@ -246,7 +246,7 @@ module _ (start : Start) (now : Moment) (waiting : Waiting) (more : Text)
       more = more;
       steps = way.steps;
       lines = way.lines;
-      heard = way.heard;
+      received = way.received;
       begins = begins;
       stops = stops;
       always = always;
@@ -319,13 +319,13 @@ module _ (start : Start) (now : Moment) (waiting : Waiting) (more : Text)
         ]
 
     -- a write failed
-    write_broken : (done : List Operation) → IsWrittenInPart waiting.said logged done
+    write_broken : (done : List Operation) → IsWrittenInPart waiting.output logged done
         → IsBrokenOff start (record now { done = done })
     write_broken done (some, part, e) =
         let written = Write some ∷ logged in
         let whole : IsAlways (IsSafe start rounds) written =
         write_always (IsSafe start rounds) logged logs_safely some
-        (λ less is. write_safe less (prefix_trans less some waiting.said is part)) in
+        (λ less is. write_safe less (prefix_trans less some waiting.output is part)) in
         subst (λ ops. IsBrokenOff start (record now { done = ops })) (sym e)
         (broken_by (OutputFailed ∷ written)
         (begins_more start.bytes start.former OutputFailed written refl
@@ -337,7 +337,7 @@ module _ (start : Start) (now : Moment) (waiting : Waiting) (more : Text)
         ))
 
     pub sent_in_part : (done : List Operation)
-        → IsSentInPart start.sync waiting.logged waiting.said now.done done
+        → IsSentInPart start.sync waiting.logged waiting.output now.done done
         → IsBrokenOff start (record now { done = done })
     sent_in_part done (inl failed) = append_broken done failed
     sent_in_part done (inr (inl (synced, failed))) = sync_broken done synced failed

@@ -29,7 +29,7 @@ IsUnchanged done = AllByRecursion (λ operation. changes_nothing operation ≡ t
 module _ (keeping : Keeping) (version : Text) (input input_after : Option Text)
     (done : List Operation)
   where
-    -- nothing was heard, and neither the log nor the output was changed
+    -- nothing was received, and neither the log nor the output was changed
     abbrev pub HasNotBegun : Type 0
     HasNotBegun = (input_after ≡ input) × IsUnchanged done × StopsAtFailure done
 

@@ -19,24 +19,24 @@ use Rattle.redodb_live.specs.Answers.{AnswersInquiry, names_line}
 
 -- a line that was read, without its LF; the lines of the history that it made; its answer
 pub record Round : Type 0 where
-  pub heard : Text
+  pub received : Text
   pub lines : List (Line Text)
-  pub said : Text
+  pub output : Text
 
 -- the line gives the session, whose number it counts from 1, this text
 abbrev pub Asks : Text → ℕ → Text → Type 0
-Asks heard s text = (s < 65535) × (heard ≡ decimal (s + 1) ++ codes " " ++ text)
+Asks received s text = (s < 65535) × (received ≡ decimal (s + 1) ++ codes " " ++ text)
 
 -- the line has a command whose names fit: the database's reply is the answer
 pub record IsAnswered (before : List (Line Text)) (round : Round) : Type 0 where
   pub line : Line Text
   pub text : Text
-  pub asks : Asks round.heard line.session text
-  pub says : IsCommandLine text line.command
+  pub asks : Asks round.received line.session text
+  pub parsed : IsCommandLine text line.command
   pub few_names : length (names_after (before ++ line ∷ [])) ≤ 16777216
   pub answers : Answers texts (left_by texts empty before) line.session line.command line.reply
   pub lines_are : round.lines ≡ line ∷ []
-  pub said_is : round.said ≡ line_text_of line
+  pub output_is : round.output ≡ line_text_of line
 
 abbrev pub end_word : Text
 end_word = codes "end"
@@ -48,29 +48,29 @@ end_text_of s = ended (decimal (s + 1) ++ codes " end => ok")
 -- the line is a session's end: its closing commands were done and are the answer
 pub record IsEnded (before : List (Line Text)) (round : Round) : Type 0 where
   pub session : ℕ
-  pub asks : Asks round.heard session end_word
+  pub asks : Asks round.received session end_word
   pub accepted : AllByRecursion (λ line. (line.session ≡ session) × (line.reply ≡ Okay)) round.lines
   pub closes : ClosesAfter texts (part_of session before) round.lines
-  pub said_is : round.said ≡ flat_map line_text_of round.lines ++ end_text_of session
+  pub output_is : round.output ≡ flat_map line_text_of round.lines ++ end_text_of session
 
 -- the line is a question about a name: the answer is right after the history so far
-pub record IsTold (before : List (Line Text)) (round : Round) : Type 0 where
+pub record IsInquired (before : List (Line Text)) (round : Round) : Type 0 where
   pub session : ℕ
   pub inquiry : Inquiry
   pub name : Text
-  pub asks : Asks round.heard session (inquiry_text_of inquiry name)
+  pub asks : Asks round.received session (inquiry_text_of inquiry name)
   pub fits : inquiry_fault (inquiry_text_of inquiry name) ≡ None
-  pub tells : AnswersInquiry (left_by texts empty before) session inquiry name round.said
+  pub answers : AnswersInquiry (left_by texts empty before) session inquiry name round.output
   pub none : round.lines ≡ []
 
 abbrev pub names_word : Text
 names_word = codes "names"
 
 -- the line asks what is known of all names: the answer is right after the history so far
-pub record IsToldAll (before : List (Line Text)) (round : Round) : Type 0 where
+pub record IsListed (before : List (Line Text)) (round : Round) : Type 0 where
   pub session : ℕ
-  pub asks : Asks round.heard session names_word
-  pub tells : round.said ≡ names_line session (names_after before) (left_by texts empty before)
+  pub asks : Asks round.received session names_word
+  pub answers : round.output ≡ names_line session (names_after before) (left_by texts empty before)
   pub none : round.lines ≡ []
 
 -- the line of a fault
@@ -79,7 +79,7 @@ fault_text_of number word = ended (number ++ codes " fault " ++ word)
 
 -- the line does not begin with a session
 abbrev pub HasNoSession : Text → Type 0
-HasNoSession heard = (s : ℕ) (text : Text) → ¬ (Asks heard s text)
+HasNoSession received = (s : ℕ) (text : Text) → ¬ (Asks received s text)
 
 -- after so many lines, with so many names, one more line can't be counted, and two for each of 65 names more: these are
 -- kept for closing
@@ -98,16 +98,16 @@ IsFaultWord calls names text word =
 -- the line has a fault: that is the answer, and the line made no line of the history
 pub record IsFaulty (before : List (Line Text)) (round : Round) : Type 0 where
   pub none : round.lines ≡ []
-  pub cause : (HasNoSession round.heard
-      × (round.said ≡ fault_text_of (codes "0") (codes "bad-session")))
-      ⊎ ((s : ℕ) × (text : Text) × (word : Text) × Asks round.heard s text
+  pub cause : (HasNoSession round.received
+      × (round.output ≡ fault_text_of (codes "0") (codes "bad-session")))
+      ⊎ ((s : ℕ) × (text : Text) × (word : Text) × Asks round.received s text
       × IsFaultWord (length before) (names_after before) text word
-      × (round.said ≡ fault_text_of (decimal (s + 1)) word))
+      × (round.output ≡ fault_text_of (decimal (s + 1)) word))
 
 abbrev pub IsRound : List (Line Text) → Round → Type 0
 IsRound before round =
-    IsAnswered before round ⊎ (IsEnded before round ⊎ (IsTold before round
-    ⊎ (IsToldAll before round ⊎ IsFaulty before round)))
+    IsAnswered before round ⊎ (IsEnded before round ⊎ (IsInquired before round
+    ⊎ (IsListed before round ⊎ IsFaulty before round)))
 
 -- each is a round after the lines of the history before it
 abbrev pub AreRounds : List (Line Text) → List Round → Type 0
@@ -124,8 +124,8 @@ AreEnds before (round ∷ rounds) =
 abbrev pub lines_in : List Round → List (Line Text)
 lines_in rounds = flat_map (λ round. round.lines) rounds
 
-abbrev pub heard_in : List Round → Text
-heard_in rounds = flat_map (λ round. ended round.heard) rounds
+abbrev pub received_in : List Round → Text
+received_in rounds = flat_map (λ round. ended round.received) rounds
 
-abbrev pub said_in : List Round → Text
-said_in rounds = flat_map (λ round. round.said) rounds
+abbrev pub output_in : List Round → Text
+output_in rounds = flat_map (λ round. round.output) rounds

@@ -11,7 +11,7 @@ use Rattle.redodb_live.specs.Lines.{lines_text_of}
 use Rattle.redodb_log.specs.Logs.{Past, past_lines, head_of, HasPast, IsLogOf, IsPast, IsTornHeader}
 use Rattle.redodb_log.specs.Restores.{IsDamagedAfter}
 use Rattle.redodb_log.specs.Operations.{Operation, Read, Cut, Sync, Copy, LogFailed, HasNoFailure, StopsAtFailure, held_after, is_copy, written_by, IsPrefix, IsAlways}
-use Rattle.redodb_conversation.specs.Rounds.{Round, AreEnds, AreRounds, end_word, lines_in, heard_in, said_in}
+use Rattle.redodb_conversation.specs.Rounds.{Round, AreEnds, AreRounds, end_word, lines_in, received_in, output_in}
 use Rattle.redodb_conversation.specs.Logs.{HasNoEnd, logged_of}
 use Rattle.redodb_conversation.specs.declared.keeping.Keeping.{Keeping}
 
@@ -50,14 +50,14 @@ pub record AreEnded (found : List (Line Text)) (ends : List Round) : Type 0 wher
   pub holders : (s : ℕ) → Contains sessions s
       ↔ ((t : Text) × ((left_by texts empty found).locks.holder t ≡ Some s))
   pub ascending : IsStrictlyIncreasing sessions
-  pub asked : map (λ round. round.heard) ends
+  pub asked : map (λ round. round.received) ends
       ≡ map (λ s. decimal (s + 1) ++ codes " " ++ end_word) sessions
   pub are_ends : AreEnds found ends
   pub nothing : HoldsNothing (left_by texts empty (found ++ lines_in ends))
 
 -- each was one line: there is no LF in it
 abbrev pub AreLines : List Round → Type 0
-AreLines rounds = AllByRecursion (λ round. HasNoEnd round.heard) rounds
+AreLines rounds = AllByRecursion (λ round. HasNoEnd round.received) rounds
 
 -- the output before the first answer: which version it is, and how many lines the log had
 abbrev pub greeting_of : Text → Former → Text
@@ -66,7 +66,7 @@ greeting_of version former =
 
 -- the output after the answers of these rounds
 abbrev pub output_of : Text → Former → List Round → Text
-output_of version former rounds = greeting_of version former ++ said_in rounds
+output_of version former rounds = greeting_of version former ++ output_in rounds
 
 -- the log that was found, as far as it has these lines
 abbrev pub found_log : Former → Text
@@ -159,7 +159,7 @@ pub record IsTalk (keeping : Keeping) (version : Text) (former : Former) (rounds
   pub legal : Legal texts (lines_after former rounds)
   pub are_rounds : AreRounds (history_of former) rounds
   pub are_lines : AreLines rounds
-  pub heard : Consumes input input_after (heard_in rounds ++ rest)
+  pub received : Consumes input input_after (received_in rounds ++ rest)
   pub first : Text
   pub is_first : IsFirstLog former first
   pub always : IsAlways (λ now. IsBegun bytes former now

@@ -2,7 +2,7 @@ ghost use Rattle.std.specs.Prelude.{◌≡◌, ◌≤◌, ◌++◌, [], length, 
 ghost use Rattle.redodb_model.specs.Names.{Text};
 ghost use Rattle.redodb_history.specs.Histories.{ended};
 ghost use Rattle.redodb_conversation.specs.Logs.{HasNoEnd};
-ghost use Rattle.redodb_conversation.specs.Support.KeptLines.{IsHeardOf, IsPrefixOf, kept_of};
+ghost use Rattle.redodb_conversation.specs.Support.KeptLines.{IsReceivedOf, IsPrefixOf, kept_of};
 ghost use Rattle.redodb_conversation.specs.Support.Places.{GoesOn, GoesOnInLine, BreaksOff, as_place};
 ghost use Rattle.redodb_conversation.specs.Support.Sending.{IsFollowedBy, IsSendCause};
 ghost use Rattle.redodb_conversation.specs.Support.Unanswered.{IsMemoryFor};
@@ -10,7 +10,7 @@ ghost use Rattle.redodb_conversation.specs.Support.Unanswered.{IsMemoryFor};
 use crate::asked::asked;
 use crate::fault::{Refusal, ServeFault};
 use crate::replying::reply;
-use crate::sending::{Unsent, send, tell_fault};
+use crate::sending::{Unsent, send, send_fault};
 use redodb_history::cut_at;
 use redodb_live::{Live, Unanswered};
 use redodb_log::Devices;
@@ -62,22 +62,22 @@ fn answer_line<D: Devices>(
     unsent: &mut Unsent,
     devices: &mut D,
 ) -> Result<(), ServeFault>
-    ensures talk { OnOk result ((whole more : Text) → IsHeardOf whole line.now → GoesOn sync
+    ensures talk { OnOk result ((whole more : Text) → IsReceivedOf whole line.now → GoesOn sync
         (as_place live.old (D.history devices.old) unsent.old)
         (as_place live.new (D.history devices.new) unsent.new)
         (ended whole ++ more) more) }
-    ensures broken { OnErr result ((whole more : Text) → IsHeardOf whole line.now → BreaksOff sync
+    ensures broken { OnErr result ((whole more : Text) → IsReceivedOf whole line.now → BreaksOff sync
         (as_place live.old (D.history devices.old) unsent.old)
         (as_place live.new (D.history devices.new) unsent.new)
         (ended whole ++ more)) }
     ensures cause { IfErr result (IsSendCause (D.history devices.new)) }
     ensures more { IsFollowedBy (D.history devices.old) (D.history devices.new) }
 {
-    let Unsent { said, logged, .. } = unsent;
-    match reply(alloc, live, line, usize::MAX, said, logged) {
+    let Unsent { output, logged, .. } = unsent;
+    match reply(alloc, live, line, usize::MAX, output, logged) {
         Ok(_) => Ok(()),
         // No answer is longer than that, so memory ran out.
-        Err(_) => tell_fault(without_memory(line), sync, unsent, devices),
+        Err(_) => send_fault(without_memory(line), sync, unsent, devices),
     }
 }
 
@@ -168,7 +168,7 @@ pub(crate) fn answer_lines<D: Devices>(
     ensures more { IsFollowedBy (D.history devices.old) (D.history devices.new) }
     ensures room { MOST_KEPT ≤ vec_capacity prefix.new }
     ensures few { OnOk result (length prefix.new.items ≤ MOST_KEPT) }
-    ensures none_said { OnOk result (unsent.new.said.items ≡ []) }
+    ensures none_output { OnOk result (unsent.new.output.items ≡ []) }
     ensures none_logged { OnOk result (unsent.new.logged.items ≡ []) }
 {
     let mut rest = bytes;

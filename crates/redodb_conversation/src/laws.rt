@@ -9,10 +9,10 @@ ghost use Rattle.redodb_history.specs.Histories.{history_text_of};
 ghost use Rattle.redodb_history.specs.HistoryTexts.{IsHistory};
 ghost use Rattle.redodb_live.specs.Lines.{names_after};
 ghost use Rattle.redodb_log.specs.Operations.{Operation, held_after, written_by, IsAlways};
-ghost use Rattle.redodb_conversation.specs.Rounds.{Round, AreRounds, heard_in, lines_in};
+ghost use Rattle.redodb_conversation.specs.Rounds.{Round, AreRounds, received_in, lines_in};
 ghost use Rattle.redodb_conversation.specs.Talks.{Former, IsConversation, IsTalk, lines_after};
 ghost use Rattle.redodb_conversation.specs.Support.Laws.{Agree, AreFew, AreLoggedBy, AsksWhy, HasLed, HasSufficed, IsLogUpTo, RestoresFormer, RestoresAnswered, rounds_of};
-ghost use Rattle.redodb_conversation.specs.Support.Steps.{Known, Telling};
+ghost use Rattle.redodb_conversation.specs.Support.Steps.{Known, Inquiring};
 ghost use Rattle.redodb_conversation.specs.declared.keeping.Keeping.{Keeping};
 
 /// The lines of a conversation, from the first that its log ever had on, are a history: where they are few enough, so
@@ -58,24 +58,24 @@ pub fn log_is_always_one()
         ⊎ RestoresAnswered keeping.sync version former rounds now) done }
 {}
 
-/// What is heard after a history determines what is done and answered, but for the answers that memory or the counters
-/// ran out, and for the shortest chain that tells why a name is out of date. So the bytes that are read determine the
-/// bytes that are written, and with what the log begins with, and after how many rounds, the log.
+/// What is received after a history determines what is done and answered, but for the answers that memory or the
+/// counters ran out, and for the shortest chain that says why a name is out of date. So the bytes that are read
+/// determine the bytes that are written, and with what the log begins with, and after how many rounds, the log.
 pub fn conversation_is_determined()
     ensures agree { (before : List (Line Text)) (a b : List Round)
         → AreRounds before a → AreRounds before b
-        → map (λ round. round.heard) a ≡ map (λ round. round.heard) b
+        → map (λ round. round.received) a ≡ map (λ round. round.received) b
         → AllByRecursion HasSufficed a → AllByRecursion HasSufficed b → Agree a b }
     ensures equal { (before : List (Line Text)) (a b : List Round)
         → AreRounds before a → AreRounds before b
-        → map (λ round. round.heard) a ≡ map (λ round. round.heard) b
+        → map (λ round. round.received) a ≡ map (λ round. round.received) b
         → AllByRecursion HasSufficed a → AllByRecursion HasSufficed b
-        → AllByRecursion (λ round. ¬ (AsksWhy round.heard)) a → a ≡ b }
+        → AllByRecursion (λ round. ¬ (AsksWhy round.received)) a → a ≡ b }
     ensures bytes { (version base second : Text) (m n : ℕ) (former : Former) (a b : List Round)
         (rest last : Text) (one other : List Operation) → HasLed version base m former a rest one
-        → HasLed version second n former b last other → heard_in a ++ rest ≡ heard_in b ++ last
+        → HasLed version second n former b last other → received_in a ++ rest ≡ received_in b ++ last
         → AllByRecursion HasSufficed a → AllByRecursion HasSufficed b
-        → AllByRecursion (λ round. ¬ (AsksWhy round.heard)) a
+        → AllByRecursion (λ round. ¬ (AsksWhy round.received)) a
         → (written_by one ≡ written_by other)
         × (base ≡ second → m ≡ n → (held_after one).all ≡ (held_after other).all) }
 {}
@@ -83,7 +83,7 @@ pub fn conversation_is_determined()
 /// Questions with the same line as their answer are the same session's about the same name, and are answered the same.
 pub fn answers_differ()
     ensures { (old new other_old other_new : Known) (a b : Round)
-        → (one : Telling old new a) → (other : Telling other_old other_new b) → a.said ≡ b.said
+        → (one : Inquiring old new a) → (other : Inquiring other_old other_new b) → a.output ≡ b.output
         → (one.session ≡ other.session) × (one.name ≡ other.name)
-        × (one.tells.is.answer ≡ other.tells.is.answer) }
+        × (one.answers.is.answer ≡ other.answers.is.answer) }
 {}

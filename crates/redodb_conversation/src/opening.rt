@@ -83,10 +83,10 @@ fn end_all(alloc: Global, live: &mut Live, logged: &mut Vec<u8>) -> Result<(), A
         → IsLeftBy live.old before → EndsAll before live.new logged.old.items logged.new.items) }
 {
     let sessions = live.holders(alloc)?;
-    let mut said = Vec::new(alloc);
+    let mut output = Vec::new(alloc);
     for &session in &sessions {
-        said.clear();
-        if live.end(alloc, session, &mut said, logged).is_err() {
+        output.clear();
+        if live.end(alloc, session, &mut output, logged).is_err() {
             return Err(AllocError);
         }
     }

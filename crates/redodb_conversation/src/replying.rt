@@ -3,16 +3,17 @@ ghost use Rattle.std.specs.Prelude.{◌≡◌, ◌≤◌, ◌+◌, ◌++◌, len
 ghost use Rattle.redodb_model.specs.Names.{Text};
 ghost use Rattle.redodb_live.specs.Support.AnswerForms.{AnswersInForm};
 ghost use Rattle.redodb_live.specs.Support.LiveState.{IsAsKnown, state_in};
-ghost use Rattle.redodb_live.specs.Support.Told.{TellsNothing};
+ghost use Rattle.redodb_live.specs.Support.AnswerFaults.{IsUnwrittenFor};
+ghost use Rattle.redodb_live.specs.Support.Appended.{AppendsNothing};
 ghost use Rattle.redodb_conversation.specs.Rounds.{Asks, fault_text_of};
 ghost use Rattle.redodb_conversation.specs.Support.Places.{known_of};
-ghost use Rattle.redodb_conversation.specs.Support.Replies.{TellsRound, IsPutOffFor, IsUndoneFor, IsUnsaidFor, IsUntoldFor};
+ghost use Rattle.redodb_conversation.specs.Support.Replies.{AppendsRound, IsInquiryFaultFor, IsPutOffFor, IsUndoneFor};
 
 use crate::asked::asked;
 use crate::fault::Refusal;
 use crate::request::{Request, read_request};
 use crate::sending::fault_line;
-use redodb_live::{Live, Unanswered, Withheld};
+use redodb_live::{Live, Unanswered, AnswerFault};
 use redodb_text::Inquiry;
 use std::alloc::Global;
 
@@ -33,24 +34,24 @@ fn ask_within(
     inquiry: Inquiry,
     name: &[u8],
     most: usize,
-    said: &mut Vec<u8>,
-) -> Result<(), Withheld>
-    ensures told { OnOk result ((line : Text)
+    output: &mut Vec<u8>,
+) -> Result<(), AnswerFault>
+    ensures answered { OnOk result ((line : Text)
         × AnswersInForm (state_in live.old) session inquiry name.now line
-        × (said.new.items ≡ said.old.items ++ line)) }
+        × (output.new.items ≡ output.old.items ++ line)) }
     ensures fits { OnOk result
-        (length said.new.items ≤ length said.old.items + most) }
+        (length output.new.items ≤ length output.old.items + most) }
     ensures cause { IfErr result
-        (IsUntoldFor (state_in live.old) session inquiry name.now most) }
+        (IsInquiryFaultFor (state_in live.old) session inquiry name.now most) }
     ensures known { IsAsKnown live.old live.new }
-    ensures untold { OnErr result (said.new.items ≡ said.old.items) }
+    ensures unwritten { OnErr result (output.new.items ≡ output.old.items) }
 {
-    let before = said.len();
-    live.ask(alloc, session, inquiry, name, said)?;
-    let size = said.len() - before;
+    let before = output.len();
+    live.ask(alloc, session, inquiry, name, output)?;
+    let size = output.len() - before;
     if size > most {
-        said.truncate(before);
-        return Err(Withheld::TooLong(size));
+        output.truncate(before);
+        return Err(AnswerFault::TooLong(size));
     }
     Ok(())
 }
@@ -62,48 +63,48 @@ fn respond_within(
     session: u16,
     text: &[u8],
     most: usize,
-    said: &mut Vec<u8>,
+    output: &mut Vec<u8>,
     logged: &mut Vec<u8>,
-) -> Result<(), Withheld>
-    ensures told { OnOk result ((heard : Text) → Asks heard session text.now
-        → TellsRound Replied.Done (known_of live.old) (known_of live.new) heard
-        said.old.items said.new.items logged.old.items logged.new.items) }
+) -> Result<(), AnswerFault>
+    ensures answered { OnOk result ((received : Text) → Asks received session text.now
+        → AppendsRound Replied.Done (known_of live.old) (known_of live.new) received
+        output.old.items output.new.items logged.old.items logged.new.items) }
     ensures fits { OnOk result
-        (length said.new.items ≤ length said.old.items + most) }
+        (length output.new.items ≤ length output.old.items + most) }
     ensures cause { IfErr result (IsUndoneFor live.old session text.now most) }
     ensures known { OnErr result (IsAsKnown live.old live.new) }
-    ensures untold { OnErr result
-        (TellsNothing said.old.items said.new.items logged.old.items logged.new.items) }
+    ensures unwritten { OnErr result
+        (AppendsNothing output.old.items output.new.items logged.old.items logged.new.items) }
 {
     match read_request(text) {
-        Ok(Request::End) => live.end_within(alloc, session, most, said, logged),
-        Ok(Request::Names) => live.tell_names(alloc, session, most, said),
+        Ok(Request::End) => live.end_within(alloc, session, most, output, logged),
+        Ok(Request::Names) => live.list_names(alloc, session, most, output),
         Ok(Request::Inquiry(inquiry, name)) => {
-            ask_within(alloc, live, session, inquiry, name, most, said)
+            ask_within(alloc, live, session, inquiry, name, most, output)
         }
-        Ok(Request::Command) => live.answer_within(alloc, session, text, most, said, logged),
-        Err(fault) => Err(Withheld::Unanswered(Unanswered::Fault(fault))),
+        Ok(Request::Command) => live.answer_within(alloc, session, text, most, output, logged),
+        Err(fault) => Err(AnswerFault::Unanswered(Unanswered::Fault(fault))),
     }
 }
 
 /// Answers a fault in at most `most` bytes.
-fn refuse_within(fault: Refusal, most: usize, said: &mut Vec<u8>) -> Result<Replied, Withheld>
+fn refuse_within(fault: Refusal, most: usize, output: &mut Vec<u8>) -> Result<Replied, AnswerFault>
     requires { length fault.word.now ≤ 20 }
-    ensures told { OnOk result (said.new.items
-        ≡ said.old.items ++ fault_text_of (decimal fault.number) fault.word.now) }
+    ensures answered { OnOk result (output.new.items
+        ≡ output.old.items ++ fault_text_of (decimal fault.number) fault.word.now) }
     ensures fits { OnOk result
-        (length said.new.items ≤ length said.old.items + most) }
+        (length output.new.items ≤ length output.old.items + most) }
     ensures fault { IfOk result (λ replied. replied ≡ Replied.Fault) }
     ensures cause { IfErr result
-        (IsUnsaidFor (fault_text_of (decimal fault.number) fault.word.now) most) }
-    ensures untold { OnErr result (said.new.items ≡ said.old.items) }
+        (IsUnwrittenFor (fault_text_of (decimal fault.number) fault.word.now) most) }
+    ensures unwritten { OnErr result (output.new.items ≡ output.old.items) }
 {
     let line = fault_line(fault);
     let size = line.len();
     if size > most {
-        return Err(Withheld::TooLong(size));
+        return Err(AnswerFault::TooLong(size));
     }
-    said.extend_from_slice(&line)?;
+    output.extend_from_slice(&line)?;
     Ok(Replied::Fault)
 }
 
@@ -114,25 +115,25 @@ pub fn reply(
     live: &mut Live,
     line: &[u8],
     most: usize,
-    said: &mut Vec<u8>,
+    output: &mut Vec<u8>,
     logged: &mut Vec<u8>,
-) -> Result<Replied, Withheld>
-    ensures told { IfOk result (λ replied. TellsRound replied
+) -> Result<Replied, AnswerFault>
+    ensures answered { IfOk result (λ replied. AppendsRound replied
         (known_of live.old) (known_of live.new) line.now
-        said.old.items said.new.items logged.old.items logged.new.items) }
+        output.old.items output.new.items logged.old.items logged.new.items) }
     ensures fits { OnOk result
-        (length said.new.items ≤ length said.old.items + most) }
+        (length output.new.items ≤ length output.old.items + most) }
     ensures cause { IfErr result (IsPutOffFor (known_of live.old) line.now most) }
     ensures known { OnErr result (IsAsKnown live.old live.new) }
-    ensures untold { OnErr result
-        (TellsNothing said.old.items said.new.items logged.old.items logged.new.items) }
+    ensures unwritten { OnErr result
+        (AppendsNothing output.old.items output.new.items logged.old.items logged.new.items) }
 {
     let Some((session, text)) = asked(line) else {
-        return refuse_within(Refusal::no_session(), most, said);
+        return refuse_within(Refusal::no_session(), most, output);
     };
-    match respond_within(alloc, live, session, text, most, said, logged) {
+    match respond_within(alloc, live, session, text, most, output, logged) {
         Ok(()) => Ok(Replied::Done),
-        Err(Withheld::Unanswered(why)) => refuse_within(Refusal::of(session, why), most, said),
-        Err(Withheld::TooLong(size)) => Err(Withheld::TooLong(size)),
+        Err(AnswerFault::Unanswered(why)) => refuse_within(Refusal::of(session, why), most, output),
+        Err(AnswerFault::TooLong(size)) => Err(AnswerFault::TooLong(size)),
     }
 }

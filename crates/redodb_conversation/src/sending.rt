@@ -1,6 +1,6 @@
 ghost use Rattle.std.specs.Prelude.{◌≡◌, ◌⊎◌, ◌+◌, ◌≤◌, ◌++◌, [], OnOk, OnErr, IfErr, decimal, length};
 ghost use Rattle.redodb_conversation.specs.Rounds.{fault_text_of};
-ghost use Rattle.redodb_conversation.specs.Support.Sending.{IsKeptBack, IsSent, IsSentInPart, IsToldInPart, IsSendCause, sent_after};
+ghost use Rattle.redodb_conversation.specs.Support.Sending.{IsKeptBack, IsSent, IsSentInPart, IsFaultSentInPart, IsSendCause, sent_after};
 
 use crate::fault::{Refusal, ServeFault};
 use arrayvec::ArrayVec;
@@ -17,7 +17,7 @@ const MANY: usize = 65_536;
 /// The answers that aren't sent yet, and their log lines.
 #[derive(Drop)]
 pub(crate) struct Unsent {
-    pub said: Vec<u8>,
+    pub output: Vec<u8>,
     pub logged: Vec<u8>,
     /// How many bytes came to the log since these were counted last.
     pub appended: usize,
@@ -26,25 +26,25 @@ pub(crate) struct Unsent {
 impl Unsent {
     /// Nothing. Allocates nothing.
     pub fn new(alloc: Global) -> Unsent
-        ensures said { result.said.items ≡ [] }
+        ensures output { result.output.items ≡ [] }
         ensures logged { result.logged.items ≡ [] }
     {
         Unsent {
-            said: Vec::new(alloc),
+            output: Vec::new(alloc),
             logged: Vec::new(alloc),
             appended: 0,
         }
     }
 
     pub fn is_much(&self) -> bool {
-        self.said.len() > MANY || self.logged.len() > MANY
+        self.output.len() > MANY || self.logged.len() > MANY
     }
 
     fn clear(&mut self)
-        ensures said { self.new.said.items ≡ [] }
+        ensures output { self.new.output.items ≡ [] }
         ensures logged { self.new.logged.items ≡ [] }
     {
-        self.said.clear();
+        self.output.clear();
         self.logged.clear();
     }
 }
@@ -54,12 +54,12 @@ impl Unsent {
 fn put<D: Devices>(
     sync: bool,
     logged: &[u8],
-    said: &[u8],
+    output: &[u8],
     devices: &mut D,
 ) -> Result<(), ServeFault>
     ensures sent { OnOk result (D.history devices.new
-        ≡ sent_after sync logged.now said.now (D.history devices.old)) }
-    ensures part { OnErr result (IsSentInPart sync logged.now said.now
+        ≡ sent_after sync logged.now output.now (D.history devices.old)) }
+    ensures part { OnErr result (IsSentInPart sync logged.now output.now
         (D.history devices.old) (D.history devices.new)) }
     ensures cause { IfErr result (IsSendCause (D.history devices.new)) }
 {
@@ -67,7 +67,7 @@ fn put<D: Devices>(
     if sync {
         devices.sync()?;
     }
-    devices.write(said)?;
+    devices.write(output)?;
     Ok(())
 }
 
@@ -78,15 +78,15 @@ pub(crate) fn send<D: Devices>(
     devices: &mut D,
 ) -> Result<(), ServeFault>
     ensures sent { OnOk result (D.history devices.new ≡ sent_after sync
-        unsent.old.logged.items unsent.old.said.items (D.history devices.old)) }
-    ensures none_said { OnOk result (unsent.new.said.items ≡ []) }
+        unsent.old.logged.items unsent.old.output.items (D.history devices.old)) }
+    ensures none_output { OnOk result (unsent.new.output.items ≡ []) }
     ensures none_logged { OnOk result (unsent.new.logged.items ≡ []) }
     ensures part { OnErr result (IsSentInPart sync
-        unsent.old.logged.items unsent.old.said.items (D.history devices.old)
+        unsent.old.logged.items unsent.old.output.items (D.history devices.old)
         (D.history devices.new)) }
     ensures cause { IfErr result (IsSendCause (D.history devices.new)) }
 {
-    put(sync, &unsent.logged, &unsent.said, devices)?;
+    put(sync, &unsent.logged, &unsent.output, devices)?;
     unsent.appended = unsent.appended.saturating_add(unsent.logged.len());
     unsent.clear();
     Ok(())
@@ -115,29 +115,29 @@ pub(crate) fn fault_line(fault: Refusal) -> FaultLine
 }
 
 /// Answers a fault: appends it to what waits if memory suffices, else writes it after that was sent.
-pub(crate) fn tell_fault<D: Devices>(
+pub(crate) fn send_fault<D: Devices>(
     fault: Refusal,
     sync: bool,
     unsent: &mut Unsent,
     devices: &mut D,
 ) -> Result<(), ServeFault>
     requires { length fault.word.now ≤ 20 }
-    ensures told { OnOk result (IsKeptBack (D.history devices.old) (D.history devices.new)
+    ensures answered { OnOk result (IsKeptBack (D.history devices.old) (D.history devices.new)
         unsent.old.logged.items unsent.new.logged.items
-        unsent.old.said.items unsent.new.said.items
+        unsent.old.output.items unsent.new.output.items
         (fault_text_of (decimal fault.number) fault.word.now)
         ⊎ IsSent sync (D.history devices.old) (D.history devices.new)
         unsent.old.logged.items unsent.new.logged.items
-        unsent.old.said.items unsent.new.said.items
+        unsent.old.output.items unsent.new.output.items
         (fault_text_of (decimal fault.number) fault.word.now)) }
-    ensures part { OnErr result (IsToldInPart sync
-        unsent.old.logged.items unsent.old.said.items
+    ensures part { OnErr result (IsFaultSentInPart sync
+        unsent.old.logged.items unsent.old.output.items
         (fault_text_of (decimal fault.number) fault.word.now)
         (D.history devices.old) (D.history devices.new)) }
     ensures cause { IfErr result (IsSendCause (D.history devices.new)) }
 {
     let line = fault_line(fault);
-    if unsent.said.extend_from_slice(&line).is_ok() {
+    if unsent.output.extend_from_slice(&line).is_ok() {
         return Ok(());
     }
     send(sync, unsent, devices)?;

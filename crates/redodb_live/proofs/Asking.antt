@@ -81,23 +81,23 @@ module _ (names : List Text) (are : AreNames names) (st : State ℕ)
         (unused_by_name (renaming names are) st.records n (slice_get_within names n name found)
         unused)
 
-    pub told_why : (n : ℕ) (name : Text) → n < length names → text_at names n ≡ name
+    pub why_over_names : (n : ℕ) (name : Text) → n < length names → text_at names n ≡ name
         → (found : Option Why) → TellsWhy st.records n (option_map why_of found)
         → TellsWhy here.records name (option_map (why_at names) found)
-    told_why n name below named None tells =
+    why_over_names n name below named None is_why =
         subst (λ t. TellsWhy here.records t None) named
-        (tells_why_by_name (renaming names are) st.records within.records n below None tells)
-    told_why n name below named (Some why) tells =
+        (tells_why_by_name (renaming names are) st.records within.records n below None is_why)
+    why_over_names n name below named (Some why) is_why =
         subst (λ t. TellsWhy here.records t (Some (why_at names why))) named
         (tells_why_by_name (renaming names are) st.records within.records n below
-        (Some (why_of why)) tells)
+        (Some (why_of why)) is_why)
 
-    pub told_why_below : (n : ℕ) (found : Option Why)
+    pub found_why_below : (n : ℕ) (found : Option Why)
         → TellsWhy st.records n (option_map why_of found)
         → IfSome found (λ why. IsWhyBelow (length names) (why_of why))
-    told_why_below n None tells = tt
-    told_why_below n (Some why) tells =
-        why_below (renaming names are) st.records within.records n (why_of why) tells
+    found_why_below n None is_why = tt
+    found_why_below n (Some why) is_why =
+        why_below (renaming names are) st.records within.records n (why_of why) is_why
 
     pub sorted_deps : (n : ℕ) (deps : model.Deps ℕ) (change created : List ℕ)
         → AreDeps by_number st.records n deps
@@ -126,10 +126,10 @@ module _ (names : List Text) (are : AreNames names) (st : State ℕ)
           (λ m there. (within.records.createds n m ((are_deps.created.1 m).0 there)).1);
     }
 
-    pub told_deps : (n : ℕ) → n < length names → (deps : model.Deps ℕ)
+    pub deps_over_names : (n : ℕ) → n < length names → (deps : model.Deps ℕ)
         → AreDeps (by_text names) st.records n deps
         → AreDeps texts here.records (text_at names n) (named_deps (text_at names) deps)
-    told_deps n below deps are_deps =
+    deps_over_names n below deps are_deps =
         deps_by_name (renaming names are) st.records within.records texts (by_text names).order
         (alike names are) n below deps are_deps
 
@@ -159,20 +159,20 @@ module _ (names : List Text) (are : AreNames names) (st : State ℕ)
           (λ t there. (within.records.createds t n ((are_users.created.1 t).0 there)).0);
     }
 
-    pub told_users : (n : ℕ) → n < length names → (users : users.Users ℕ)
+    pub users_over_names : (n : ℕ) → n < length names → (users : users.Users ℕ)
         → AreUsers (by_text names) st.records n users
         → AreUsers texts here.records (text_at names n) (named_users (text_at names) users)
-    told_users n below users are_users =
+    users_over_names n below users are_users =
         users_by_name (renaming names are) st.records within.records texts (by_text names).order
         (alike names are) n below users are_users
 
-    pub told_state : (n : ℕ) (name : Text) → n < length names → text_at names n ≡ name
+    pub state_over_names : (n : ℕ) (name : Text) → n < length names → text_at names n ≡ name
         → (state : TargetState) (holder : Option ℕ) (file : Option Text)
         → state ≡ target_state st.records n → holder ≡ st.locks.holder n
         → file ≡ (st.records.cell n).file
         → Standing state holder file ≡ Standing (target_state here.records name)
         (here.locks.holder name) (here.records.cell name).file
-    told_state n name below named state holder file is_state is_holder is_file =
+    state_over_names n name below named state holder file is_state is_holder is_file =
         let cell : here.records.cell name ≡ st.records.cell n =
         ap here.records.cell (sym named) ∙ cell_at_name (renaming names are) st.records n below in
         let held : here.locks.holder name ≡ st.locks.holder n =

@@ -32,8 +32,8 @@ use Rattle.redodb_live.specs.Support.Ended.{end_text}
 use Rattle.redodb_live.specs.Support.ClosingLines.{AreClosing, TakesNoRoom}
 use Rattle.redodb_live.specs.Support.Kept.{IsKept}
 use Rattle.redodb_live.specs.Support.Ordered.{AreSortedAgain}
-use Rattle.redodb_live.specs.Support.Told.{EndsSession}
-use Rattle.redodb_live.specs.Support.Withheld.{WouldEnd}
+use Rattle.redodb_live.specs.Support.Appended.{EndsSession}
+use Rattle.redodb_live.specs.Support.AnswerFaults.{WouldEnd}
 use Rattle.redodb_live.specs.Support.Within.{IsStateWithin}
 use Rattle.redodb_live.proofs.Answering.{renaming, number_is_strict, orders, alike}
 use Rattle.redodb_live.proofs.Closing.{all_closing, closing_by_name, few_lines, kept_then, left_texts, legal_numbers, lines_below}
@@ -158,8 +158,8 @@ module _ (names : List Text) (are : AreNames names) (tables : Tables)
         (all_closing (λ line. TakesNoRoom line.command) session (state_of tables)
         (tables_count tables) closing.targets closing.below (λ t b. (tt, tt)))
 
-    pub told_below : AreLinesBelow names lines
-    told_below =
+    pub lines_are_below : AreLinesBelow names lines
+    lines_are_below =
         each (IsLineBelow (length names))
         (lines_below names are (state_of tables) session kept.within kept.builders closing.targets
         below_names held_texts)
@@ -220,13 +220,13 @@ module _ (names : List Text) (are : AreNames names) (tables : Tables)
             closing.targets below_names held_texts nat_cmp (state_of next)
             left_closing (calls_of tables) kept once mine)
 
-        pub ends : (said said_after logged logged_after : Text)
-            → said_after ≡ said
+        pub ends : (output output_after logged logged_after : Text)
+            → output_after ≡ output
             ++ (flat_map line_text_of (map (line_at names) lines) ++ end_text session)
             → logged_after ≡ logged ++ flat_map line_text_of (map (line_at names) lines)
             → EndsSession (record { names = names; tables = tables })
-            (record { names = names; tables = next }) session said said_after logged logged_after
-        ends said said_after logged logged_after says logs =
+            (record { names = names; tables = next }) session output output_after logged logged_after
+        ends output output_after logged logged_after writes logs =
             record {
               lines = map (line_at names) lines;
               is = record {
@@ -242,6 +242,6 @@ module _ (names : List Text) (are : AreNames names) (tables : Tables)
               names = refl;
               calls = counted
                   ∙ ap (λ (n : ℕ). calls_of tables + n) (sym (length-map lines (line_at names)));
-              says = says;
+              writes = writes;
               logs = logs;
             }

@@ -19,11 +19,11 @@ use Rattle.redodb_database.specs.Tables.{Tables, state_of, tables_records, calls
 use Rattle.redodb_live.specs.Support.Answered.{logged_text}
 use Rattle.redodb_live.specs.Support.LiveState.{LiveState, state_in, calls_in, IsSameDatabase}
 use Rattle.redodb_live.specs.Support.Kept.{IsKept}
-use Rattle.redodb_live.specs.Support.Told.{IsTold, IsObeyed, AnswersText, IsUnansweredFor}
-use Rattle.redodb_live.specs.Support.Withheld.{WouldObey, IsUnobeyedFor, IsWithheldFor}
+use Rattle.redodb_live.specs.Support.Appended.{IsReplyLine, IsObeyed, AnswersText, IsUnansweredFor}
+use Rattle.redodb_live.specs.Support.AnswerFaults.{WouldObey, IsUnobeyedFor, IsAnswerFaultFor}
 use Rattle.redodb_live.specs.declared.fault.Unanswered.TheVariants.{Memory}
-use Rattle.redodb_live.specs.declared.fault.Withheld.{Withheld}
-use Rattle.redodb_live.specs.declared.fault.Withheld.TheVariants.{Unanswered, TooLong}
+use Rattle.redodb_live.specs.declared.fault.AnswerFault.{AnswerFault}
+use Rattle.redodb_live.specs.declared.fault.AnswerFault.TheVariants.{Unanswered, TooLong}
 use Rattle.redodb_live.proofs.Answering.{renaming, now_answers}
 use Rattle.redodb_live.proofs.Changing.{changes_by_name}
 use Rattle.redodb_live.proofs.Keeping.{IsKept-after}
@@ -37,59 +37,59 @@ before names tables old old_names old_state =
 
 module _ (names : List Text) (are : AreNames names) (tables : Tables)
     (kept : IsKept names (state_of tables) (calls_of tables)) (session : ℕ) (command : Command ℕ)
-    (below : IsBelow (length names) command) (told : Line) (reply : Reply)
+    (below : IsBelow (length names) command) (reply_line : Line) (reply : Reply)
     (text : Text)
-    (is : IsTold (record { names = names; tables = tables }) session command told reply text)
+    (is : IsReplyLine (record { names = names; tables = tables }) session command reply_line reply text)
   where
-    asked_below : IsBelow (length names) (command_of told.command)
+    asked_below : IsBelow (length names) (command_of reply_line.command)
     asked_below = subst (IsBelow (length names)) (sym is.command_is) below
 
-    told_answers : Answers texts (named_state (numbering names) (state_of tables)) session
+    line_answers : Answers texts (named_state (numbering names) (state_of tables)) session
         (named_command (text_at names) command)
-        (named_reply (text_at names) (reply_of told.reply))
-    told_answers =
+        (named_reply (text_at names) (reply_of reply_line.reply))
+    line_answers =
         now_answers names are tables kept.within session command below (reply_of reply)
-        (reply_of told.reply) is.answers is.sorted
+        (reply_of reply_line.reply) is.answers is.sorted
 
-    told_changes : changes (named_state (numbering names) (state_of tables)).records
-        (line_at names told).command (line_at names told).reply
-        ≡ changes (tables_records tables) (command_of told.command) (reply_of reply)
-    told_changes =
+    line_changes : changes (named_state (numbering names) (state_of tables)).records
+        (line_at names reply_line).command (line_at names reply_line).reply
+        ≡ changes (tables_records tables) (command_of reply_line.command) (reply_of reply)
+    line_changes =
         changes_by_name (by_text names).order names are (tables_records tables)
-        (reply_of reply) (reply_of told.reply) is.sorted
-        (command_of told.command) asked_below
+        (reply_of reply) (reply_of reply_line.reply) is.sorted
+        (command_of reply_line.command) asked_below
 
     module _ (old : LiveState) (old_names : names ≡ old.names)
         (old_state : state_of tables ≡ state_of old.tables)
       where
-        told_command : (line_at names told).command
+        line_command : (line_at names reply_line).command
             ≡ named_command (text_at old.names) command
-        told_command =
+        line_command =
             ap (named_command (text_at names)) is.command_is
             ∙ ap (λ (ns : List Text). named_command (text_at ns) command) old_names
 
-        told_there : Answers texts (state_in old) session (line_at names told).command
-            (line_at names told).reply
-        told_there =
-            let line = line_at names told in
+        line_answers_there : Answers texts (state_in old) session (line_at names reply_line).command
+            (line_at names reply_line).reply
+        line_answers_there =
+            let line = line_at names reply_line in
             subst (λ (st : State Text). Answers texts st session line.command line.reply)
             (before names tables old old_names old_state)
             (subst (λ (asked : Command ℕ). Answers texts
             (named_state (numbering names) (state_of tables)) session
-            (named_command (text_at names) asked) line.reply) (sym is.command_is) told_answers)
+            (named_command (text_at names) asked) line.reply) (sym is.command_is) line_answers)
 
         pub would_obey : WouldObey old session command (length text)
         would_obey = record {
-          line = line_at names told;
+          line = line_at names reply_line;
           session_is = is.session_is;
-          command_is = told_command;
-          answers = told_there;
+          command_is = line_command;
+          answers = line_answers_there;
           size_is = ap length is.text_is;
         }
 
     module _ (next : Tables)
         (steps : state_of next
-        ≡ after by_number (state_of tables) session (command_of told.command))
+        ≡ after by_number (state_of tables) session (command_of reply_line.command))
         (counted : calls_of next ≡ calls_of tables + 1)
       where
         same_step : state_of next ≡ after by_number (state_of tables) session command
@@ -102,24 +102,24 @@ module _ (names : List Text) (are : AreNames names) (tables : Tables)
             subst (λ (st : State ℕ). IsKept names st (calls_of next)) (sym same_step)
             (subst (IsKept names (after by_number (state_of tables) session command)) (sym counted)
             (IsKept-after names are nat_cmp (state_of tables) session command
-            (named_reply (text_at names) (reply_of told.reply)) (calls_of tables) left below
-            kept told_answers))
+            (named_reply (text_at names) (reply_of reply_line.reply)) (calls_of tables) left below
+            kept line_answers))
 
-        pub obeyed : (old : LiveState) (said said_after logged logged_after : Text) (b : Bool)
+        pub obeyed : (old : LiveState) (output output_after logged logged_after : Text) (b : Bool)
             → names ≡ old.names → state_of tables ≡ state_of old.tables
             → calls_of tables ≡ calls_in old
-            → b ≡ changes (tables_records tables) (command_of told.command)
+            → b ≡ changes (tables_records tables) (command_of reply_line.command)
             (reply_of reply)
-            → said_after ≡ said ++ text
+            → output_after ≡ output ++ text
             → logged_after ≡ logged ++ cond b text []
-            → IsObeyed old (record { names = names; tables = next }) session command said said_after
+            → IsObeyed old (record { names = names; tables = next }) session command output output_after
             logged logged_after
-        obeyed old said said_after logged logged_after b old_names old_state old_calls changing
-            says logs =
-            let line = line_at names told in
+        obeyed old output output_after logged logged_after b old_names old_state old_calls changing
+            writes logs =
+            let line = line_at names reply_line in
             let same = before names tables old old_names old_state in
             let is_changing : b ≡ changes (state_in old).records line.command line.reply =
-            changing ∙ sym told_changes
+            changing ∙ sym line_changes
             ∙ ap (λ (st : State Text). changes st.records line.command line.reply) same in
             let logged_is : cond b text [] ≡ logged_text (state_in old) line =
             ap (λ (w : Bool). cond w text []) is_changing
@@ -128,31 +128,31 @@ module _ (names : List Text) (are : AreNames names) (tables : Tables)
             record {
               line = line;
               session_is = is.session_is;
-              command_is = told_command old old_names old_state;
-              answers = told_there old old_names old_state;
+              command_is = line_command old old_names old_state;
+              answers = line_answers_there old old_names old_state;
               after_is = ap (named_state (numbering names)) steps
                   ∙ after_by_name (renaming names are) texts texts_are_names nat_cmp
-                  (state_of tables) session (command_of told.command) asked_below
+                  (state_of tables) session (command_of reply_line.command) asked_below
                   ∙ ap (λ (st : State Text). after texts st session line.command) same;
-              told = record {
-                says = says ∙ ap (λ (t : Text). said ++ t) is.text_is;
+              appended = record {
+                writes = writes ∙ ap (λ (t : Text). output ++ t) is.text_is;
                 logs = logs ∙ ap (λ (t : Text). logged ++ t) logged_is;
                 calls = counted ∙ ap (λ (n : ℕ). n + 1) old_calls;
               };
             }
 
 -- why a text of at most so many bytes wasn't appended
-abbrev pub IsUntoldFor : Text → ℕ → Withheld → Type 0
-IsUntoldFor text most why =
+abbrev pub IsUnwrittenFor : Text → ℕ → AnswerFault → Type 0
+IsUnwrittenFor text most why =
     (why ≡ Unanswered Memory) ⊎ ((why ≡ TooLong (length text)) × (most < length text))
 
 -- then its command isn't obeyed
-pub untold : (old : LiveState) (session : ℕ) (command : Command ℕ) (most : ℕ) (why : Withheld)
-    (text : Text) → WouldObey old session command (length text) → IsUntoldFor text most why
+pub unobeyed : (old : LiveState) (session : ℕ) (command : Command ℕ) (most : ℕ) (why : AnswerFault)
+    (text : Text) → WouldObey old session command (length text) → IsUnwrittenFor text most why
     → IsUnobeyedFor old session command most why
-untold old session command most why text would (inl e) =
+unobeyed old session command most why text would (inl e) =
     subst (IsUnobeyedFor old session command most) (sym e) refl
-untold old session command most why text would (inr (e, more)) =
+unobeyed old session command most why text would (inr (e, more)) =
     subst (IsUnobeyedFor old session command most) (sym e) (more, would)
 
 module _ (old mid : LiveState) (names : mid.names ≡ old.names) (same : IsSameDatabase old mid) where
@@ -161,14 +161,14 @@ module _ (old mid : LiveState) (names : mid.names ≡ old.names) (same : IsSameD
 
   -- the same for a database that knew the same
   pub obeyed_before : (new : LiveState) (session asking : ℕ) (command asked : Command ℕ)
-      (said said_after logged logged_after : Text) → asking ≡ session → asked ≡ command
-      → IsObeyed mid new asking asked said said_after logged logged_after
-      → IsObeyed old new session command said said_after logged logged_after
-  obeyed_before new session asking command asked said said_after logged logged_after session_is
+      (output output_after logged logged_after : Text) → asking ≡ session → asked ≡ command
+      → IsObeyed mid new asking asked output output_after logged logged_after
+      → IsObeyed old new session command output output_after logged logged_after
+  obeyed_before new session asking command asked output output_after logged logged_after session_is
       command_is obeys =
       let line = obeys.line in
-      subst (λ (s : ℕ). IsObeyed old new s command said said_after logged logged_after) session_is
-      (subst (λ (k : Command ℕ). IsObeyed old new asking k said said_after logged logged_after)
+      subst (λ (s : ℕ). IsObeyed old new s command output output_after logged logged_after) session_is
+      (subst (λ (k : Command ℕ). IsObeyed old new asking k output output_after logged logged_after)
       command_is record {
         line = line;
         session_is = obeys.session_is;
@@ -178,16 +178,16 @@ module _ (old mid : LiveState) (names : mid.names ≡ old.names) (same : IsSameD
             same_state obeys.answers;
         after_is = obeys.after_is
             ∙ ap (λ (st : State Text). after texts st asking line.command) same_state;
-        told = record {
-          says = obeys.told.says;
-          logs = obeys.told.logs
+        appended = record {
+          writes = obeys.appended.writes;
+          logs = obeys.appended.logs
               ∙ ap (λ (st : State Text). logged ++ logged_text st line) same_state;
-          calls = obeys.told.calls ∙ ap (λ (n : ℕ). n + 1) same.calls;
+          calls = obeys.appended.calls ∙ ap (λ (n : ℕ). n + 1) same.calls;
         };
       })
 
   pub unobeyed_before : (session asking : ℕ) (command asked : Command ℕ) (most : ℕ)
-      (why : Withheld) → asking ≡ session → asked ≡ command
+      (why : AnswerFault) → asking ≡ session → asked ≡ command
       → IsUnobeyedFor mid asking asked most why → IsUnobeyedFor old session command most why
   unobeyed_before session asking command asked most (Unanswered why) session_is command_is e = e
   unobeyed_before session asking command asked most (TooLong size) session_is command_is
@@ -209,20 +209,20 @@ module _ (old mid : LiveState) (names : mid.names ≡ old.names) (same : IsSameD
 
 -- and the text that was read, if the names before are a prefix of these
 pub answered : (old mid new : LiveState) (session : ℕ) (text : Text) (command : Command ℕ)
-    (said said_after logged logged_after : Text) → state_in mid ≡ state_in old
+    (output output_after logged logged_after : Text) → state_in mid ≡ state_in old
     → calls_in mid ≡ calls_in old → new.names ≡ mid.names
     → IsCommandLine text (named_command (text_at mid.names) command)
     → AddsNames 16777216 old.names (named_command (text_at mid.names) command ∷ []) mid.names
-    → IsObeyed mid new session command said said_after logged logged_after
-    → AnswersText old new session text said said_after logged logged_after
-answered old mid new session text command said said_after logged logged_after same calls names
+    → IsObeyed mid new session command output output_after logged logged_after
+    → AnswersText old new session text output output_after logged logged_after
+answered old mid new session text command output output_after logged logged_after same calls names
     is_line adds obeys =
     let line = obeys.line in
     record {
       line = line;
       is = record {
         session_is = obeys.session_is;
-        said = subst (IsCommandLine text) (sym obeys.command_is) is_line;
+        parsed = subst (IsCommandLine text) (sym obeys.command_is) is_line;
         named = subst (λ (ns : List Text). AddsNames 16777216 old.names (line.command ∷ []) ns)
             (sym names)
             (subst (λ (asked : Command Text). AddsNames 16777216 old.names (asked ∷ []) mid.names)
@@ -232,29 +232,29 @@ answered old mid new session text command said said_after logged logged_after sa
         after_is = obeys.after_is
             ∙ ap (λ (st : State Text). after texts st session line.command) same;
       };
-      told = record {
-        says = obeys.told.says;
-        logs = obeys.told.logs
+      appended = record {
+        writes = obeys.appended.writes;
+        logs = obeys.appended.logs
             ∙ ap (λ (st : State Text). logged ++ logged_text st line) same;
-        calls = obeys.told.calls ∙ ap (λ (n : ℕ). n + 1) calls;
+        calls = obeys.appended.calls ∙ ap (λ (n : ℕ). n + 1) calls;
       };
     }
 
 -- what refuses the command refuses the text
-pub withheld : (old mid : LiveState) (session : ℕ) (text : Text) (command : Command ℕ)
-    (most : ℕ) (why : Withheld) → state_in mid ≡ state_in old
+pub answer_fault : (old mid : LiveState) (session : ℕ) (text : Text) (command : Command ℕ)
+    (most : ℕ) (why : AnswerFault) → state_in mid ≡ state_in old
     → IsCommandLine text (named_command (text_at mid.names) command)
     → AddsNames 16777216 old.names (named_command (text_at mid.names) command ∷ []) mid.names
-    → IsUnobeyedFor mid session command most why → IsWithheldFor old session text most why
-withheld old mid session text command most (Unanswered why) same is_line adds e =
+    → IsUnobeyedFor mid session command most why → IsAnswerFaultFor old session text most why
+answer_fault old mid session text command most (Unanswered why) same is_line adds e =
     subst (IsUnansweredFor old text) (sym e) tt
-withheld old mid session text command most (TooLong size) same is_line adds (more, would) =
+answer_fault old mid session text command most (TooLong size) same is_line adds (more, would) =
     let line = would.line in (
       more,
       record {
         line = line;
         session_is = would.session_is;
-        said = subst (IsCommandLine text) (sym would.command_is) is_line;
+        parsed = subst (IsCommandLine text) (sym would.command_is) is_line;
         names_after = mid.names;
         named = subst
             (λ (asked : Command Text). AddsNames 16777216 old.names (asked ∷ []) mid.names)

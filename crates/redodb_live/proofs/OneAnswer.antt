@@ -329,9 +329,9 @@ one_answer session other_session name other_name answer other below other_below 
     let named : name ≡ other_name = ap (λ ws. get_or ws 2 []) words in
     let asked : inquiry_word (inquiry_of answer) ≡ inquiry_word (inquiry_of other) =
     ap (λ ws. get_or ws 1 []) words in
-    let told : answer_words name answer ≡ answer_words name other =
+    let same_words : answer_words name answer ≡ answer_words name other =
     ap (drop 4) words ∙ ap (λ n. answer_words n other) (sym named) in (
       same_session session other_session below other_below (ap first_of words),
       named,
-      same_answer name answer other form other_form asked told,
+      same_answer name answer other form other_form asked same_words,
     )

@@ -28,13 +28,13 @@ pub record AreSlotsOf (live : LiveState) (t : ℕ) (slots : List Slot) : Type 0 
   pub no_change : (n : ℕ) → length live.names ≤ n → (slot_at slots n).change ≡ None
   pub no_created : (n : ℕ) → length live.names ≤ n → (slot_at slots n).created ≡ false
 
-pub told_slots : (live : LiveState) → AreNames live.names
+pub slots_over_names : (live : LiveState) → AreNames live.names
     → IsStateWithin (length live.names) (state_of live.tables) → (t : ℕ) → t < length live.names
     → (slots : List Slot)
     → ((n : ℕ) → (slot_at slots n).change ≡ (state_of live.tables).records.rows.change t n)
     → ((n : ℕ) → (slot_at slots n).created ≡ (state_of live.tables).records.rows.created t n)
     → AreSlotsOf live t slots
-told_slots live are within t below slots changes createds =
+slots_over_names live are within t below slots changes createds =
     let r = (state_of live.tables).records in
     record {
       change = λ n named.

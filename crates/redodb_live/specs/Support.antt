@@ -2,8 +2,8 @@ pub mod LiveState
 pub mod Within
 pub mod Kept
 pub mod Ordered
-pub mod Told
-pub mod Withheld
+pub mod Appended
+pub mod AnswerFaults
 pub mod ClosingLines
 pub mod Answered
 pub mod Asked

@@ -17,7 +17,7 @@ pub enum Unanswered {
 
 /// Why a command was not answered in this many bytes.
 #[derive(Clone, Copy, Debug, PartialEq, Eq, Error)]
-pub enum Withheld {
+pub enum AnswerFault {
     #[error("{0}")]
     Unanswered(Unanswered),
     /// The answer would have this many bytes, which is more than the limit.
@@ -38,7 +38,7 @@ impl From<AllocError> for Unanswered {
 
 impl From<ReadFault> for Unanswered {
     ghost use Rattle.std.specs.Prelude.{◌≡◌};
-    ghost use Rattle.redodb_live.specs.Support.Told.{unread};
+    ghost use Rattle.redodb_live.specs.Support.Appended.{unread};
 
     ghost from_gives = { λ fault why. why ≡ unread fault };
 
@@ -50,25 +50,25 @@ impl From<ReadFault> for Unanswered {
     }
 }
 
-impl From<AllocError> for Withheld {
+impl From<AllocError> for AnswerFault {
     ghost use Rattle.std.specs.Prelude.{◌≡◌};
     ghost use Rattle.redodb_live.specs.declared.fault.Unanswered.TheVariants.{Memory};
-    ghost use Rattle.redodb_live.specs.declared.fault.Withheld.TheVariants.{Unanswered};
+    ghost use Rattle.redodb_live.specs.declared.fault.AnswerFault.TheVariants.{Unanswered};
 
     ghost from_gives = { λ _ why. why ≡ Unanswered Memory };
 
-    fn from(_: AllocError) -> Withheld {
-        Withheld::Unanswered(Unanswered::Memory)
+    fn from(_: AllocError) -> AnswerFault {
+        AnswerFault::Unanswered(Unanswered::Memory)
     }
 }
 
-impl From<Unanswered> for Withheld {
+impl From<Unanswered> for AnswerFault {
     ghost use Rattle.std.specs.Prelude.{◌≡◌};
-    ghost use Rattle.redodb_live.specs.declared.fault.Withheld.TheVariants.{Unanswered};
+    ghost use Rattle.redodb_live.specs.declared.fault.AnswerFault.TheVariants.{Unanswered};
 
     ghost from_gives = { λ unanswered why. why ≡ Unanswered unanswered };
 
-    fn from(unanswered: Unanswered) -> Withheld {
-        Withheld::Unanswered(unanswered)
+    fn from(unanswered: Unanswered) -> AnswerFault {
+        AnswerFault::Unanswered(unanswered)
     }
 }

@@ -10,8 +10,8 @@ ghost use Rattle.redodb_text.specs.Grammar.{IsCommandLine, AddsNames};
 ghost use Rattle.redodb_text.specs.Questions.{line_fault};
 ghost use Rattle.redodb_database.specs.Tables.{has_room_for, state_of, tables_count};
 
-use crate::fault::{Unanswered, Withheld};
-use crate::told::{answered, line_text, tell_within, text_if};
+use crate::appending::{answered, append_within, line_text, text_if};
+use crate::fault::{AnswerFault, Unanswered};
 use redodb_commands::{Command, Line, Reply};
 use redodb_database::Redo;
 use redodb_names::Names;
@@ -79,9 +79,9 @@ impl Model for Live {
 impl Live {
     ghost use Rattle.redodb_live.specs.Support.LiveState.{state_in, calls_in, HasCallsLeft};
     ghost use Rattle.redodb_live.specs.Support.LiveState.{IsAsKnown, IsSameDatabase};
-    ghost use Rattle.redodb_live.specs.Support.Told.{IsUnansweredFor, IsWorn, AnswersText, TellsNothing};
-    ghost use Rattle.redodb_live.specs.Support.Told.{IsDue, IsObeyed};
-    ghost use Rattle.redodb_live.specs.Support.Withheld.{IsWithheldFor, IsUnobeyedFor};
+    ghost use Rattle.redodb_live.specs.Support.Appended.{IsUnansweredFor, IsWorn, AnswersText, AppendsNothing};
+    ghost use Rattle.redodb_live.specs.Support.Appended.{IsDue, IsObeyed};
+    ghost use Rattle.redodb_live.specs.Support.AnswerFaults.{IsAnswerFaultFor, IsUnobeyedFor};
 
     /// The empty database.
     pub fn new(alloc: Global) -> Result<Live, AllocError>
@@ -98,31 +98,32 @@ impl Live {
         })
     }
 
-    /// Answers a session's command: appends its line of the history to `said`, and to `logged` if it changes something.
+    /// Answers a session's command: appends its line of the history to `output`, and to `logged` if it changes
+    /// something.
     pub fn answer(
         &mut self,
         alloc: Global,
         session: u16,
         text: &[u8],
-        said: &mut Vec<u8>,
+        output: &mut Vec<u8>,
         logged: &mut Vec<u8>,
     ) -> Result<(), Unanswered>
         ensures answered { OnOk result (AnswersText self.old self.new session text.now
-            said.old.items said.new.items logged.old.items logged.new.items) }
+            output.old.items output.new.items logged.old.items logged.new.items) }
 
         // A fault is that of the line, and a line that is answered has none.
         ensures cause { IfErr result (IsUnansweredFor self.old text.now) }
         ensures no_fault { OnOk result (line_fault 16777216 self.old.names text.now ≡ None) }
 
         ensures known { OnErr result (IsAsKnown self.old self.new) }
-        ensures untold { OnErr result
-            (TellsNothing said.old.items said.new.items logged.old.items logged.new.items) }
+        ensures unwritten { OnErr result
+            (AppendsNothing output.old.items output.new.items logged.old.items logged.new.items) }
     {
-        match self.answer_within(alloc, session, text, usize::MAX, said, logged) {
+        match self.answer_within(alloc, session, text, usize::MAX, output, logged) {
             Ok(()) => Ok(()),
-            Err(Withheld::Unanswered(why)) => Err(why),
+            Err(AnswerFault::Unanswered(why)) => Err(why),
             // No line is longer than that.
-            Err(Withheld::TooLong(_)) => Err(Unanswered::Memory),
+            Err(AnswerFault::TooLong(_)) => Err(Unanswered::Memory),
         }
     }
 
@@ -134,27 +135,27 @@ impl Live {
         session: u16,
         text: &[u8],
         most: usize,
-        said: &mut Vec<u8>,
+        output: &mut Vec<u8>,
         logged: &mut Vec<u8>,
-    ) -> Result<(), Withheld>
+    ) -> Result<(), AnswerFault>
         ensures answered { OnOk result (AnswersText self.old self.new session text.now
-            said.old.items said.new.items logged.old.items logged.new.items) }
+            output.old.items output.new.items logged.old.items logged.new.items) }
         ensures fits { OnOk result
-            (length said.new.items ≤ length said.old.items + most) }
+            (length output.new.items ≤ length output.old.items + most) }
 
         // A fault is that of the line, and a line that is answered has none. `TooLong` has the length of the answer.
-        ensures cause { IfErr result (IsWithheldFor self.old session text.now most) }
+        ensures cause { IfErr result (IsAnswerFaultFor self.old session text.now most) }
         ensures no_fault { OnOk result (line_fault 16777216 self.old.names text.now ≡ None) }
 
         ensures known { OnErr result (IsAsKnown self.old self.new) }
-        ensures untold { OnErr result
-            (TellsNothing said.old.items said.new.items logged.old.items logged.new.items) }
+        ensures unwritten { OnErr result
+            (AppendsNothing output.old.items output.new.items logged.old.items logged.new.items) }
     {
         if self.is_worn() {
-            return Err(Withheld::Unanswered(Unanswered::Worn));
+            return Err(AnswerFault::Unanswered(Unanswered::Worn));
         }
         let count = self.names.len();
-        match self.hear(alloc, session, text, most, said, logged) {
+        match self.read_and_obey(alloc, session, text, most, output, logged) {
             Ok(()) => Ok(()),
             Err(why) => {
                 self.names.keep_first(count);
@@ -203,29 +204,29 @@ impl Live {
     }
 
     /// Answers a session's command. On an error, names of it may stay.
-    fn hear(
+    fn read_and_obey(
         &mut self,
         alloc: Global,
         session: u16,
         text: &[u8],
         most: usize,
-        said: &mut Vec<u8>,
+        output: &mut Vec<u8>,
         logged: &mut Vec<u8>,
-    ) -> Result<(), Withheld>
+    ) -> Result<(), AnswerFault>
         requires names { AreNames self.old.names }
         requires calls { ¬ (IsWorn self.old) }
         ensures answered { OnOk result (AnswersText self.old self.new session text.now
-            said.old.items said.new.items logged.old.items logged.new.items) }
+            output.old.items output.new.items logged.old.items logged.new.items) }
         ensures fits { OnOk result
-            (length said.new.items ≤ length said.old.items + most) }
-        ensures cause { IfErr result (IsWithheldFor self.old session text.now most) }
+            (length output.new.items ≤ length output.old.items + most) }
+        ensures cause { IfErr result (IsAnswerFaultFor self.old session text.now most) }
         ensures kept { Extends self.old.names self.new.names }
         ensures known { OnErr result (IsSameDatabase self.old self.new) }
-        ensures untold { OnErr result
-            (TellsNothing said.old.items said.new.items logged.old.items logged.new.items) }
+        ensures unwritten { OnErr result
+            (AppendsNothing output.old.items output.new.items logged.old.items logged.new.items) }
     {
         let command = self.read(alloc, text)?;
-        self.obey(alloc, session, command, most, said, logged)?;
+        self.obey(alloc, session, command, most, output, logged)?;
         Ok(())
     }
 
@@ -236,54 +237,54 @@ impl Live {
         session: u16,
         command: Command,
         most: usize,
-        said: &mut Vec<u8>,
+        output: &mut Vec<u8>,
         logged: &mut Vec<u8>,
-    ) -> Result<(), Withheld>
+    ) -> Result<(), AnswerFault>
         requires below { IsBelow (length self.old.names) (command_of command) }
         requires names { AreNames self.old.names }
         requires calls { HasCallsLeft self.old }
         ensures obeyed { OnOk result (IsObeyed self.old self.new session (command_of command)
-            said.old.items said.new.items logged.old.items logged.new.items) }
+            output.old.items output.new.items logged.old.items logged.new.items) }
         ensures fits { OnOk result
-            (length said.new.items ≤ length said.old.items + most) }
+            (length output.new.items ≤ length output.old.items + most) }
         ensures cause { IfErr result
             (IsUnobeyedFor self.old session (command_of command) most) }
         ensures names { self.new.names ≡ self.old.names }
         ensures known { OnErr result (IsSameDatabase self.old self.new) }
-        ensures untold { OnErr result
-            (TellsNothing said.old.items said.new.items logged.old.items logged.new.items) }
+        ensures unwritten { OnErr result
+            (AppendsNothing output.old.items output.new.items logged.old.items logged.new.items) }
     {
         let reply = self.reply_in_room(alloc, session, &command)?;
         let line = answered(alloc, session, command, &reply, &self.names)?;
-        self.carry_out(alloc, &line, &reply, most, said, logged)
+        self.carry_out(alloc, &line, &reply, most, output, logged)
     }
 
-    /// Tells the line of a command with this reply, and makes its change, in reserved memory.
+    /// Appends the line of a command with this reply, and makes its change, in reserved memory.
     fn carry_out(
         &mut self,
         alloc: Global,
         line: &Line,
         reply: &Reply,
         most: usize,
-        said: &mut Vec<u8>,
+        output: &mut Vec<u8>,
         logged: &mut Vec<u8>,
-    ) -> Result<(), Withheld>
+    ) -> Result<(), AnswerFault>
         requires { IsDue self.old line.now reply.now }
         ensures obeyed { OnOk result (IsObeyed self.old self.new line.now.session
             (command_of line.now.command)
-            said.old.items said.new.items logged.old.items logged.new.items) }
-        ensures fits { OnOk result (length said.new.items ≤ length said.old.items + most) }
+            output.old.items output.new.items logged.old.items logged.new.items) }
+        ensures fits { OnOk result (length output.new.items ≤ length output.old.items + most) }
         ensures cause { IfErr result (IsUnobeyedFor self.old line.now.session
             (command_of line.now.command) most) }
         ensures names { self.new.names ≡ self.old.names }
         ensures err { OnErr result (self.new ≡ self.old) }
-        ensures untold { OnErr result
-            (TellsNothing said.old.items said.new.items logged.old.items logged.new.items) }
+        ensures unwritten { OnErr result
+            (AppendsNothing output.old.items output.new.items logged.old.items logged.new.items) }
     {
         let old_line = self.take_line(alloc);
         let text = line_text(alloc, line, &self.names, old_line)?;
         let changes = self.redo.changes(&line.command, reply);
-        tell_within(said, &text, most, logged, text_if(changes, &text))?;
+        append_within(output, &text, most, logged, text_if(changes, &text))?;
         self.redo.change(line.session, &line.command, reply);
         self.line = text;
         Ok(())

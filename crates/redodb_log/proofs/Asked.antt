@@ -67,11 +67,11 @@ asks_for text more rest line is free e =
     (without_from 10 text free) (e ∙ regroup d c r rest) in
     (end.0, end.1 ∙ append_assoc d (32 ∷ (c ++ arrow)) end.0)
 
-module _ (text word rest said : Text) (session : ℕ) (few : session < 65535)
-    (cut : IsCutAtSpace text word rest) (asks : AsksFor text session said)
+module _ (text word rest wanted : Text) (session : ℕ) (few : session < 65535)
+    (cut : IsCutAtSpace text word rest) (asks : AsksFor text session wanted)
   where
-    at_space : (word ≡ decimal (session + 1)) × (rest ≡ said ++ arrow ++ asks.0)
-    at_space = one_cut_at_space text (decimal (session + 1)) (said ++ arrow ++ asks.0) word rest
+    at_space : (word ≡ decimal (session + 1)) × (rest ≡ wanted ++ arrow ++ asks.0)
+    at_space = one_cut_at_space text (decimal (session + 1)) (wanted ++ arrow ++ asks.0) word rest
         (number_is_without 32 (session + 1) refl (omega arith)) asks.1 cut
 
     pub is_session_word : IsSessionWord 65535 word session
@@ -85,11 +85,11 @@ module _ (text word rest said : Text) (session : ℕ) (few : session < 65535)
         omega arith
 
     pub has_arrow : ¬ (HasNoArrow rest)
-    has_arrow none = none said asks.0 at_space.1
+    has_arrow none = none wanted asks.0 at_space.1
 
-    pub same_said : (command : Command Text) (own reply : Text) → IsCommandLine said command
-        → IsCutAtArrow rest own reply → own ≡ said
-    same_said command own reply is found =
-        (one_cut_at_arrow rest own reply said asks.0 found
-        (subst (λ (t : Text). IsCutAtArrow t said asks.0) (sym at_space.1)
-        (command_cut said command asks.0 is))).0
+    pub same_wanted : (command : Command Text) (own reply : Text) → IsCommandLine wanted command
+        → IsCutAtArrow rest own reply → own ≡ wanted
+    same_wanted command own reply is found =
+        (one_cut_at_arrow rest own reply wanted asks.0 found
+        (subst (λ (t : Text). IsCutAtArrow t wanted asks.0) (sym at_space.1)
+        (command_cut wanted command asks.0 is))).0

@@ -13,7 +13,7 @@ use Rattle.redodb_history.specs.Histories.{line_text_of}
 use Rattle.redodb_history.proofs.HistoryReadsBack.{own_text_of}
 use Rattle.redodb_history.proofs.TextCuts.{has_lf}
 use Rattle.redodb_live.specs.Support.LiveState.{LiveState}
-use Rattle.redodb_live.specs.Support.Told.{IsWorn}
+use Rattle.redodb_live.specs.Support.Appended.{IsWorn}
 use Rattle.redodb_live.specs.Lines.{lines_text_of, names_after}
 use Rattle.redodb_log.specs.Logs.{Past, past_lines, head_of, AreLogged, IsLogOf}
 use Rattle.redodb_log.specs.Restores.{IsLeftBy, IsRestoredTo, DiffersBehind, IsRestoreCause, IsOfRoom, IsWithin}

@@ -3,7 +3,7 @@ ghost use Rattle.redodb_model.specs.Names.{Text};
 ghost use Rattle.redodb_model.specs.Command.{Command};
 ghost use Rattle.redodb_model.specs.History.{Line};
 ghost use Rattle.redodb_text.specs.Grammar.{IsCommandLine};
-ghost use Rattle.redodb_live.specs.Support.Told.{IsWorn};
+ghost use Rattle.redodb_live.specs.Support.Appended.{IsWorn};
 ghost use Rattle.redodb_history.specs.Support.HistoryFaults.{IsCutAt};
 ghost use Rattle.redodb_log.specs.Logs.{dump_header, Past, HasPast, IsLogOf, IsTornHeader};
 ghost use Rattle.redodb_log.specs.Restores.{head_lines, IsRestored, IsRestoredTo, IsRestoreCause, IsOfRoom, IsWithin};
@@ -70,9 +70,9 @@ impl From<AllocError> for RestoreFault {
 /// The session and the text of the command that a line begins with.
 fn asked(text: &[u8]) -> Option<(u16, &[u8])>
     ensures session { IfSome result (λ asked. asked.0 < 65535) }
-    ensures found { (session : ℕ) (said : Text) (command : Command Text) → session < 65535
-        → IsCommandLine said command → AsksFor text.now session said
-        → IsSomeAnd result (λ asked. (asked.0 ≡ session) × (asked.1.now ≡ said)) }
+    ensures found { (session : ℕ) (wanted : Text) (command : Command Text) → session < 65535
+        → IsCommandLine wanted command → AsksFor text.now session wanted
+        → IsSomeAnd result (λ asked. (asked.0 ≡ session) × (asked.1.now ≡ wanted)) }
 {
     let (word, rest) = cut_at_space(text);
     let session = session_of(word, MOST_SESSIONS)?;
@@ -92,7 +92,7 @@ struct Extent {
 #[derive(Drop)]
 struct Again {
     live: Live,
-    said: Vec<u8>,
+    output: Vec<u8>,
     logged: Vec<u8>,
 }
 
@@ -116,13 +116,13 @@ impl Again {
         let Some((session, command)) = asked(text) else {
             return Ok(None);
         };
-        self.said.clear();
+        self.output.clear();
         self.logged.clear();
         match self
             .live
-            .answer(alloc, session, command, &mut self.said, &mut self.logged)
+            .answer(alloc, session, command, &mut self.output, &mut self.logged)
         {
-            Ok(()) => Ok(left.strip_prefix(self.said.as_slice())),
+            Ok(()) => Ok(left.strip_prefix(self.output.as_slice())),
             Err(Unanswered::Fault(_)) => Ok(None),
             Err(Unanswered::Memory) => Err(RestoreFault::Memory),
             Err(Unanswered::Worn) => Err(RestoreFault::Worn),
@@ -221,7 +221,7 @@ fn restore_lines(
     let first = lines_in(&log[..head]) + 1;
     let mut again = Again {
         live,
-        said: Vec::new(alloc),
+        output: Vec::new(alloc),
         logged: Vec::new(alloc),
     };
     let extent = again.redo_lines(alloc, first, log, lines)?;

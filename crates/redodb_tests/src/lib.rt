@@ -26,4 +26,4 @@ mod served;
 #[cfg(test)]
 mod shared;
 #[cfg(test)]
-mod told;
+mod appending;

@@ -7,8 +7,8 @@ use Rattle.redodb_conversation.specs.Logs.{HasNoEnd}
 abbrev pub kept_of : Text → Text
 kept_of line = take 8199 line
 
--- of a whole line this was heard: the line itself, or what is kept of it
-pub record IsHeardOf (whole line : Text) : Type 0 where
+-- of a whole line this was received: the line itself, or what is kept of it
+pub record IsReceivedOf (whole line : Text) : Type 0 where
   pub unended : HasNoEnd whole
   pub is : (line ≡ whole) ⊎ (line ≡ kept_of whole)
 

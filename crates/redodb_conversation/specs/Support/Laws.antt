@@ -35,7 +35,7 @@ pub record AreFew (lines : List (Line Text)) : Type 0 where
 -- the rounds whose line begins with the session's number and a space
 abbrev pub rounds_of : ℕ → List Round → List Round
 rounds_of s rounds =
-    filter (λ round. starts_with nat_eq round.heard (decimal (s + 1) ++ codes " ")) rounds
+    filter (λ round. starts_with nat_eq round.received (decimal (s + 1) ++ codes " ")) rounds
 
 -- the bytes are a log that ends with these lines, which begin with its past
 abbrev pub IsLogUpTo : Text → List (Line Text) → Text → Type 0
@@ -61,7 +61,7 @@ pub record IsLogBehind (version : Text) (former : Former) (rounds : List Round)
   pub since : List Round
   pub others : List Round
   pub parts : rounds ≡ (before ++ since) ++ others
-  pub said : IsPrefix written (output_of version former (before ++ since))
+  pub output : IsPrefix written (output_of version former (before ++ since))
   pub lines : List (Line Text)
   pub torn : Text
   pub is_log : IsLogUpTo bytes lines torn
@@ -92,17 +92,17 @@ HasLed version base count former rounds rest done =
 -- the answer is not that memory or the counters ran out
 abbrev pub HasSufficed : Round → Type 0
 HasSufficed round = (s : ℕ)
-    → (round.said ≢ fault_text_of (decimal (s + 1)) (codes "memory"))
-    × (round.said ≢ fault_text_of (decimal (s + 1)) (codes "worn"))
+    → (round.output ≢ fault_text_of (decimal (s + 1)) (codes "memory"))
+    × (round.output ≢ fault_text_of (decimal (s + 1)) (codes "worn"))
 
 -- the line asks why a name is out of date
 abbrev pub AsksWhy : Text → Type 0
-AsksWhy heard = (s : ℕ) × (name : Text) × Asks heard s (inquiry_text_of Why name)
+AsksWhy received = (s : ℕ) × (name : Text) × Asks received s (inquiry_text_of Why name)
 
--- the rounds made the same lines, and have the same answer, unless it tells why a name is out of date
+-- the rounds made the same lines, and have the same answer, unless it says why a name is out of date
 pub record Agrees (a b : Round) : Type 0 where
   pub lines : a.lines ≡ b.lines
-  pub said : ¬ (AsksWhy a.heard) → a.said ≡ b.said
+  pub output : ¬ (AsksWhy a.received) → a.output ≡ b.output
 
 -- round by round
 abbrev pub Agree : List Round → List Round → Type 0

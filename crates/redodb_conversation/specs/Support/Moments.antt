@@ -8,7 +8,7 @@ use Rattle.redodb_live.specs.Lines.{names_after}
 use Rattle.redodb_log.specs.Logs.{AreLogged}
 use Rattle.redodb_log.specs.Operations.{Operation, HasNoFailure, StopsAtFailure, held_after, written_by, IsAlways}
 use Rattle.redodb_conversation.specs.Logs.{logged_of}
-use Rattle.redodb_conversation.specs.Rounds.{Round, heard_in, lines_in, said_in}
+use Rattle.redodb_conversation.specs.Rounds.{Round, received_in, lines_in, output_in}
 use Rattle.redodb_conversation.specs.Talks.{Former, AreLines, BeginsBy, IsBegun, IsLogAfter, IsLoggedFirst, history_of, output_of, state_after}
 use Rattle.redodb_conversation.specs.Support.Steps.{Known, AreSteps, LeadsTo}
 
@@ -46,7 +46,7 @@ pub record Moment : Type 0 where
 
 -- what is answered and waits to be sent
 pub record Waiting : Type 0 where
-  pub said : Text
+  pub output : Text
   pub logged : Text
 
 -- what is true at a moment
@@ -63,7 +63,7 @@ pub record IsUnderWay (start : Start) (now : Moment) (waiting : Waiting) (more :
     pub kept : List Round
     pub steps : AreSteps (known_first start) now.known (sent ++ kept)
     pub lines : AreLines (sent ++ kept)
-    pub heard : Consumes start.left now.left (heard_in (sent ++ kept) ++ more)
+    pub received : Consumes start.left now.left (received_in (sent ++ kept) ++ more)
     pub begins : BeginsBy start.bytes start.former now.done
     pub fine : HasNoFailure now.done
     pub always : IsAlways (IsSafe start (sent ++ kept)) now.done
@@ -72,7 +72,7 @@ pub record IsUnderWay (start : Start) (now : Moment) (waiting : Waiting) (more :
         ≡ (held_after now.done).all
     pub to_log : logged_of (state_after start.former sent) (lines_in kept) ≡ waiting.logged
     pub output : written_by now.done ≡ output_of start.version start.former sent
-    pub to_say : said_in kept ≡ waiting.said
+    pub to_write : output_in kept ≡ waiting.output
 
 -- since the start these rounds were read, and an operation failed
 pub record IsBrokenOff (start : Start) (now : Moment) : Type 0 where
@@ -81,7 +81,7 @@ pub record IsBrokenOff (start : Start) (now : Moment) : Type 0 where
   pub more : Text
   pub steps : AreSteps (known_first start) known rounds
   pub lines : AreLines rounds
-  pub heard : Consumes start.left now.left (heard_in rounds ++ more)
+  pub received : Consumes start.left now.left (received_in rounds ++ more)
   pub begins : BeginsBy start.bytes start.former now.done
   pub stops : StopsAtFailure now.done
   pub always : IsAlways (IsSafe start rounds) now.done

@@ -23,7 +23,7 @@ abbrev pub as_place : LiveState → List Operation → Unsent → Place
 as_place live done unsent = record {
   known = known_of live;
   done = done;
-  waiting = record { said = unsent.said.items; logged = unsent.logged.items };
+  waiting = record { output = unsent.output.items; logged = unsent.logged.items };
 }
 
 -- nothing waits to be sent

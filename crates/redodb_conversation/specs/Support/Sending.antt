@@ -26,7 +26,7 @@ after_logging sync logged done =
 
 -- and then these were written
 abbrev pub sent_after : Bool → Text → Text → List Operation → List Operation
-sent_after sync logged said done = Write said ∷ after_logging sync logged done
+sent_after sync logged output done = Write output ∷ after_logging sync logged done
 
 -- an append failed
 abbrev pub IsAppendedInPart : Text → List Operation → List Operation → Type 0
@@ -40,21 +40,21 @@ IsUnsynced logged done done_after =
 
 -- a write failed
 abbrev pub IsWrittenInPart : Text → List Operation → List Operation → Type 0
-IsWrittenInPart said done done_after =
-    (part : Text) × IsPrefix part said × (done_after ≡ OutputFailed ∷ Write part ∷ done)
+IsWrittenInPart output done done_after =
+    (part : Text) × IsPrefix part output × (done_after ≡ OutputFailed ∷ Write part ∷ done)
 
 -- an operation failed, and none was tried after it
 abbrev pub IsSentInPart : Bool → Text → Text → List Operation → List Operation → Type 0
-IsSentInPart sync logged said done done_after =
+IsSentInPart sync logged output done done_after =
     IsAppendedInPart logged done done_after
     ⊎ ((IsTrue sync × IsUnsynced logged done done_after)
-    ⊎ IsWrittenInPart said (after_logging sync logged done) done_after)
+    ⊎ IsWrittenInPart output (after_logging sync logged done) done_after)
 
 -- the same, where a text comes after what waits
-abbrev pub IsToldInPart : Bool → Text → Text → Text → List Operation → List Operation → Type 0
-IsToldInPart sync logged said text done done_after =
-    IsSentInPart sync logged said done done_after
-    ⊎ IsSentInPart sync [] text (sent_after sync logged said done) done_after
+abbrev pub IsFaultSentInPart : Bool → Text → Text → Text → List Operation → List Operation → Type 0
+IsFaultSentInPart sync logged output text done done_after =
+    IsSentInPart sync logged output done done_after
+    ⊎ IsSentInPart sync [] text (sent_after sync logged output done) done_after
 
 -- the fault is of the device whose operation was the last
 abbrev pub IsSendCause : List Operation → ServeFault → Type 0
@@ -64,14 +64,14 @@ IsSendCause done fault = ⊥
 
 -- the text waits after what waited
 pub record IsKeptBack (done done_after : List Operation)
-    (logged logged_after said said_after text : Text) : Type 0 where
+    (logged logged_after output output_after text : Text) : Type 0 where
   pub same : done_after ≡ done
   pub logged_same : logged_after ≡ logged
-  pub said_more : said_after ≡ said ++ text
+  pub output_more : output_after ≡ output ++ text
 
 -- what waited was sent, and then the text
 pub record IsSent (sync : Bool) (done done_after : List Operation)
-    (logged logged_after said said_after text : Text) : Type 0 where
-  pub sent : done_after ≡ sent_after sync [] text (sent_after sync logged said done)
+    (logged logged_after output output_after text : Text) : Type 0 where
+  pub sent : done_after ≡ sent_after sync [] text (sent_after sync logged output done)
   pub none_logged : logged_after ≡ []
-  pub none_said : said_after ≡ []
+  pub none_output : output_after ≡ []

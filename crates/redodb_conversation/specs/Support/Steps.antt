@@ -34,20 +34,20 @@ pub record LeadsTo (lines : List (Line Text)) (known : Known) : Type 0 where
 pub record Answering (old new : Known) (round : Round) : Type 0 where
   pub line : Line Text
   pub text : Text
-  pub asks : Asks round.heard line.session text
-  pub says : IsCommandLine text line.command
+  pub asks : Asks round.received line.session text
+  pub parsed : IsCommandLine text line.command
   pub names_are : new.names ≡ with_names old.names (names_in line.command)
   pub few_names : length new.names ≤ 16777216
   pub answers : Answers texts old.state line.session line.command line.reply
   pub state_is : new.state ≡ after texts old.state line.session line.command
   pub calls_are : new.calls ≡ old.calls + 1
   pub lines_are : round.lines ≡ line ∷ []
-  pub said_is : round.said ≡ line_text_of line
+  pub output_is : round.output ≡ line_text_of line
 
 -- a session closed the targets that it held
 pub record Ending (old new : Known) (round : Round) : Type 0 where
   pub session : ℕ
-  pub asks : Asks round.heard session end_word
+  pub asks : Asks round.received session end_word
   pub held : List Text
   pub are_held : AreHeld texts session old.state held
   pub known : AllByRecursion (λ t. has old.names t ≡ true) held
@@ -55,24 +55,24 @@ pub record Ending (old new : Known) (round : Round) : Type 0 where
   pub state_is : new.state ≡ left_by texts old.state round.lines
   pub calls_are : new.calls ≡ old.calls + length round.lines
   pub lines_are : round.lines ≡ closing_lines_of session old.state held
-  pub said_is : round.said ≡ flat_map line_text_of round.lines ++ end_text_of session
+  pub output_is : round.output ≡ flat_map line_text_of round.lines ++ end_text_of session
 
 -- a question about a name was answered
-pub record Telling (old new : Known) (round : Round) : Type 0 where
+pub record Inquiring (old new : Known) (round : Round) : Type 0 where
   pub session : ℕ
   pub inquiry : Inquiry
   pub name : Text
-  pub asks : Asks round.heard session (inquiry_text_of inquiry name)
+  pub asks : Asks round.received session (inquiry_text_of inquiry name)
   pub fits : inquiry_fault (inquiry_text_of inquiry name) ≡ None
-  pub tells : AnswersInForm old.state session inquiry name round.said
+  pub answers : AnswersInForm old.state session inquiry name round.output
   pub same : new ≡ old
   pub none : round.lines ≡ []
 
 -- what is known of all names was answered
-pub record TellingAll (old new : Known) (round : Round) : Type 0 where
+pub record Listing (old new : Known) (round : Round) : Type 0 where
   pub session : ℕ
-  pub asks : Asks round.heard session names_word
-  pub tells : round.said ≡ names_line session old.names old.state
+  pub asks : Asks round.received session names_word
+  pub answers : round.output ≡ names_line session old.names old.state
   pub same : new ≡ old
   pub none : round.lines ≡ []
 
@@ -80,16 +80,16 @@ pub record TellingAll (old new : Known) (round : Round) : Type 0 where
 pub record Refusing (old new : Known) (round : Round) : Type 0 where
   pub same : new ≡ old
   pub none : round.lines ≡ []
-  pub cause : (HasNoSession round.heard
-      × (round.said ≡ fault_text_of (codes "0") (codes "bad-session")))
-      ⊎ ((s : ℕ) × (text : Text) × (word : Text) × Asks round.heard s text
-      × IsFaultWord old.calls old.names text word × (round.said ≡ fault_text_of (decimal (s + 1)) word))
+  pub cause : (HasNoSession round.received
+      × (round.output ≡ fault_text_of (codes "0") (codes "bad-session")))
+      ⊎ ((s : ℕ) × (text : Text) × (word : Text) × Asks round.received s text
+      × IsFaultWord old.calls old.names text word × (round.output ≡ fault_text_of (decimal (s + 1)) word))
 
 abbrev pub IsStep : Known → Known → Round → Type 0
 IsStep old new round =
     Answering old new round
-    ⊎ (Ending old new round ⊎ (Telling old new round
-    ⊎ (TellingAll old new round ⊎ Refusing old new round)))
+    ⊎ (Ending old new round ⊎ (Inquiring old new round
+    ⊎ (Listing old new round ⊎ Refusing old new round)))
 
 -- one step for each round, from the old to the new
 abbrev pub AreSteps : Known → Known → List Round → Type 0

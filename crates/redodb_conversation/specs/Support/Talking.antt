@@ -18,7 +18,7 @@ pub record AreEmpty (buffers : Buffers) : Type 0 where
   pub none : buffers.prefix.items ≡ []
 
 abbrev pub nothing : Waiting
-nothing = record { said = []; logged = [] }
+nothing = record { output = []; logged = [] }
 
 -- a conversation whose first line is next, if the log is synced or not, comes to that
 abbrev pub TalksFrom : Bool → Known → Option Text → List Operation → (Start → Type 0) → Type 0

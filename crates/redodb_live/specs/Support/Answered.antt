@@ -13,7 +13,7 @@ use Rattle.redodb_history.specs.Histories.{line_text_of}
 pub record IsAnswered (old new : State Text) (names names_after : List Text) (session : ℕ)
     (text : Text) (line : Line Text) : Type 0 where
   pub session_is : line.session ≡ session
-  pub said : IsCommandLine text line.command
+  pub parsed : IsCommandLine text line.command
   pub named : AddsNames 16777216 names (line.command ∷ []) names_after
   pub answers : Answers texts old session line.command line.reply
   pub after_is : new ≡ after texts old session line.command

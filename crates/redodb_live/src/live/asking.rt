@@ -30,30 +30,30 @@ use redodb_text::{Inquiry, put_word};
 use std::alloc::{AllocError, Global};
 
 impl Live {
-    /// Answers a session's question about a name: appends a line to `said`.
+    /// Answers a session's question about a name: appends a line to `output`.
     pub fn ask(
         &mut self,
         alloc: Global,
         session: u16,
         inquiry: Inquiry,
         name: &[u8],
-        said: &mut Vec<u8>,
+        output: &mut Vec<u8>,
     ) -> Result<(), AllocError>
         ensures kept { self.new ≡ self.old }
-        ensures told { OnOk result ((line : Text)
+        ensures answered { OnOk result ((line : Text)
             × AnswersInForm (state_in self.old) session inquiry name.now line
-            × (said.new.items ≡ said.old.items ++ line)) }
-        ensures untold { OnErr result (said.new.items ≡ said.old.items) }
+            × (output.new.items ≡ output.old.items ++ line)) }
+        ensures unwritten { OnErr result (output.new.items ≡ output.old.items) }
     {
         let old_line = self.take_line(alloc);
-        let line = self.line_told(alloc, session, inquiry, name, old_line)?;
-        said.extend_from_slice(&line)?;
+        let line = self.inquiry_line(alloc, session, inquiry, name, old_line)?;
+        output.extend_from_slice(&line)?;
         self.line = line;
         Ok(())
     }
 
     /// The line that answers the question, in the memory of an older one.
-    fn line_told(
+    fn inquiry_line(
         &mut self,
         alloc: Global,
         session: u16,

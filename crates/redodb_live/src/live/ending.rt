@@ -15,10 +15,10 @@ ghost use Rattle.redodb_history.specs.Recorded.{AreLinesBelow};
 ghost use Rattle.redodb_live.specs.Support.Ended.{end_text};
 ghost use Rattle.redodb_live.specs.Support.ClosingLines.{TakesNoRoom, letting};
 
-use crate::fault::{Unanswered, Withheld};
+use crate::appending::append;
+use crate::fault::{AnswerFault, Unanswered};
 use crate::live::Live;
 use crate::ordering::sort;
-use crate::told::tell;
 use redodb_commands::{Command, Line, Reply};
 use redodb_database::Redo;
 use redodb_history::{put_line, put_number};
@@ -95,27 +95,27 @@ fn close(redo: &mut Redo, lines: &[Line])
 impl Live {
     ghost use Rattle.redodb_live.specs.Support.LiveState.{state_in, IsAsKnown};
     ghost use Rattle.redodb_live.specs.Support.ClosingLines.{AreClosing};
-    ghost use Rattle.redodb_live.specs.Support.Told.{EndsSession, TellsNothing};
-    ghost use Rattle.redodb_live.specs.Support.Withheld.{IsUnendedFor};
+    ghost use Rattle.redodb_live.specs.Support.Appended.{EndsSession, AppendsNothing};
+    ghost use Rattle.redodb_live.specs.Support.AnswerFaults.{IsUnendedFor};
     ghost use Rattle.redodb_live.specs.declared.fault.Unanswered.TheVariants.{Memory};
 
-    /// Closes all that a session holds: appends the lines of these commands to `said` and `logged`, and to `said` the
-    /// line `SESSION end => ok`.
+    /// Closes all that a session holds: appends the lines of these commands to `output` and `logged`, and to `output`
+    /// the line `SESSION end => ok`.
     pub fn end(
         &mut self,
         alloc: Global,
         session: u16,
-        said: &mut Vec<u8>,
+        output: &mut Vec<u8>,
         logged: &mut Vec<u8>,
     ) -> Result<(), Unanswered>
         ensures ended { OnOk result (EndsSession self.old self.new session
-            said.old.items said.new.items logged.old.items logged.new.items) }
+            output.old.items output.new.items logged.old.items logged.new.items) }
         ensures memory { IfErr result (λ why. why ≡ Memory) }
         ensures known { OnErr result (IsAsKnown self.old self.new) }
-        ensures untold { OnErr result
-            (TellsNothing said.old.items said.new.items logged.old.items logged.new.items) }
+        ensures unwritten { OnErr result
+            (AppendsNothing output.old.items output.new.items logged.old.items logged.new.items) }
     {
-        match self.end_within(alloc, session, usize::MAX, said, logged) {
+        match self.end_within(alloc, session, usize::MAX, output, logged) {
             Ok(()) => Ok(()),
             // No text is longer than that.
             Err(_) => Err(Unanswered::Memory),
@@ -128,17 +128,17 @@ impl Live {
         alloc: Global,
         session: u16,
         most: usize,
-        said: &mut Vec<u8>,
+        output: &mut Vec<u8>,
         logged: &mut Vec<u8>,
-    ) -> Result<(), Withheld>
+    ) -> Result<(), AnswerFault>
         ensures ended { OnOk result (EndsSession self.old self.new session
-            said.old.items said.new.items logged.old.items logged.new.items) }
+            output.old.items output.new.items logged.old.items logged.new.items) }
         ensures fits { OnOk result
-            (length said.new.items ≤ length said.old.items + most) }
+            (length output.new.items ≤ length output.old.items + most) }
         ensures cause { IfErr result (IsUnendedFor self.old session most) }
         ensures known { OnErr result (IsAsKnown self.old self.new) }
-        ensures untold { OnErr result
-            (TellsNothing said.old.items said.new.items logged.old.items logged.new.items) }
+        ensures unwritten { OnErr result
+            (AppendsNothing output.old.items output.new.items logged.old.items logged.new.items) }
     {
         let lines = self.closing_lines(alloc, session)?;
         self.names.are_names();
@@ -146,9 +146,9 @@ impl Live {
         let text = with_end(alloc, session, &kept)?;
         let size = text.len();
         if size > most {
-            return Err(Withheld::TooLong(size));
+            return Err(AnswerFault::TooLong(size));
         }
-        tell(said, &text, logged, &kept)?;
+        append(output, &text, logged, &kept)?;
         close(&mut self.redo, &lines);
         Ok(())
     }

@@ -5,10 +5,10 @@ ghost use Rattle.redodb_model.specs.Names.{text_at};
 ghost use Rattle.redodb_text.specs.Texts.{after_space};
 ghost use Rattle.redodb_live.specs.Answers.{known_words, names_line};
 ghost use Rattle.redodb_live.specs.Support.LiveState.{state_in};
-ghost use Rattle.redodb_live.specs.Support.Withheld.{IsUntoldFor};
+ghost use Rattle.redodb_live.specs.Support.AnswerFaults.{IsUnwrittenFor};
 
 use crate::asked::put_count;
-use crate::fault::Withheld;
+use crate::fault::AnswerFault;
 use crate::known::put_cell;
 use crate::live::Live;
 use redodb_history::put_number;
@@ -16,34 +16,34 @@ use redodb_text::put_word;
 use std::alloc::{AllocError, Global};
 
 impl Live {
-    /// Tells a session what is known of all names but rows and locks: appends a line to `said`, if that has at most
+    /// Answers a session what is known of all names but rows and locks: appends a line to `output`, if that has at most
     /// `most` bytes.
-    pub fn tell_names(
+    pub fn list_names(
         &self,
         alloc: Global,
         session: u16,
         most: usize,
-        said: &mut Vec<u8>,
-    ) -> Result<(), Withheld>
-        ensures told { OnOk result (said.new.items
-            ≡ said.old.items ++ names_line session self.now.names (state_in self.now)) }
+        output: &mut Vec<u8>,
+    ) -> Result<(), AnswerFault>
+        ensures answered { OnOk result (output.new.items
+            ≡ output.old.items ++ names_line session self.now.names (state_in self.now)) }
         ensures fits { OnOk result
-            (length said.new.items ≤ length said.old.items + most) }
+            (length output.new.items ≤ length output.old.items + most) }
         ensures cause { IfErr result
-            (IsUntoldFor (names_line session self.now.names (state_in self.now)) most) }
-        ensures untold { OnErr result (said.new.items ≡ said.old.items) }
+            (IsUnwrittenFor (names_line session self.now.names (state_in self.now)) most) }
+        ensures unwritten { OnErr result (output.new.items ≡ output.old.items) }
     {
-        let line = self.names_told(alloc, session)?;
+        let line = self.line_of_names(alloc, session)?;
         let size = line.len();
         if size > most {
-            return Err(Withheld::TooLong(size));
+            return Err(AnswerFault::TooLong(size));
         }
-        said.extend_from_slice(&line)?;
+        output.extend_from_slice(&line)?;
         Ok(())
     }
 
     /// The line.
-    fn names_told(&self, alloc: Global, session: u16) -> Result<Vec<u8>, AllocError>
+    fn line_of_names(&self, alloc: Global, session: u16) -> Result<Vec<u8>, AllocError>
         ensures { IfOk result
             (λ line. line.items ≡ names_line session self.now.names (state_in self.now)) }
     {

@@ -14,8 +14,8 @@ use Rattle.redodb_log.specs.Restores.{IsLeftBy}
 
 -- the text is that of a session's command, and then of an arrow and whatever follows
 abbrev pub AsksFor : Text → ℕ → Text → Type 0
-AsksFor text session said =
-    (reply : Text) × (text ≡ decimal (session + 1) ++ 32 ∷ (said ++ arrow ++ reply))
+AsksFor text session wanted =
+    (reply : Text) × (text ≡ decimal (session + 1) ++ 32 ∷ (wanted ++ arrow ++ reply))
 
 -- the line can be the next one: it is the database's answer, and its names fit
 pub record CanFollow (live : LiveState) (line : Line Text) : Type 0 where

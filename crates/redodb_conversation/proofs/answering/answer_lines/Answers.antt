@@ -86,8 +86,8 @@ keep-requires-clause-few g c = c.lines.invariant.few
 pub returns-clause-talk : goal.returns-clause-talk
 returns-clause-talk g c =
     ok_by_three c.send.result _ _ _ _ c.send.ensures.sent
-    c.send.ensures.none_logged c.send.ensures.none_said
-    (λ sent none_logged none_said begun is start left same talk.
+    c.send.ensures.none_logged c.send.ensures.none_output
+    (λ sent none_logged none_output begun is start left same talk.
     let (line, prefix, at) = c.lines.invariant.talk begun is start left same talk in
     let rest = c.lines.rest.now in (
       line ++ rest,
@@ -99,8 +99,8 @@ returns-clause-talk g c =
           (sending_goes_on c.args.sync (known_of c.lines.live)
           (g.D.Devices.history c.lines.devices) (g.D.Devices.history c.send.new.devices)
           c.lines.unsent.logged.items c.send.new.unsent.logged.items
-          c.lines.unsent.said.items c.send.new.unsent.said.items (line ++ rest)
-          sent none_logged none_said start left same at),
+          c.lines.unsent.output.items c.send.new.unsent.output.items (line ++ rest)
+          sent none_logged none_output start left same at),
     ))
 
 pub returns-clause-broken : goal.returns-clause-broken
@@ -110,7 +110,7 @@ returns-clause-broken g c =
     sending_breaks_off c.args.sync (known_of c.lines.live)
     (g.D.Devices.history c.lines.devices) (g.D.Devices.history c.send.new.devices)
     c.lines.unsent.logged.items c.send.new.unsent.logged.items
-    c.lines.unsent.said.items c.send.new.unsent.said.items (line ++ c.lines.rest.now)
+    c.lines.unsent.output.items c.send.new.unsent.output.items (line ++ c.lines.rest.now)
     part start left same at)
 
 pub returns-in_err-answer_piece-clause-more : goal.returns-in_err-answer_piece-clause-more
@@ -132,5 +132,5 @@ returns-clause-more g c =
     follows_all (g.D.Devices.history c.args.devices.now) (g.D.Devices.history c.lines.devices)
     (g.D.Devices.history c.send.new.devices) c.lines.invariant.more
     (sending_follows c.send.result c.args.sync c.lines.unsent.logged.items
-    c.lines.unsent.said.items (g.D.Devices.history c.lines.devices)
+    c.lines.unsent.output.items (g.D.Devices.history c.lines.devices)
     (g.D.Devices.history c.send.new.devices) c.send.ensures.sent c.send.ensures.part)

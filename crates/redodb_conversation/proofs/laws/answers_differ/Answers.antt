@@ -7,8 +7,8 @@ pub returns : goal.returns
 returns c old new other_old other_new a b one other same =
     let small = one.asks.0 in
     let few = other.asks.0 in
-    one_answer one.session other.session one.name other.name one.tells.is.answer
-    other.tells.is.answer (omega arith) (omega arith)
+    one_answer one.session other.session one.name other.name one.answers.is.answer
+    other.answers.is.answer (omega arith) (omega arith)
     (fits_has_name one.inquiry one.name one.fits)
-    (fits_has_name other.inquiry other.name other.fits) one.tells.form other.tells.form
-    (sym one.tells.is.line_is ∙ same ∙ other.tells.is.line_is)
+    (fits_has_name other.inquiry other.name other.fits) one.answers.form other.answers.form
+    (sym one.answers.is.line_is ∙ same ∙ other.answers.is.line_is)

@@ -2,7 +2,7 @@ use Rattle.std.proofs.Common.{◌≡◌, arith, List, [], ◌∷◌, ◌++◌, l
 use Rattle.redodb_conversation.specs.Logs.{logged_of}
 use Rattle.redodb_conversation.specs.Rounds.{lines_in}
 use Rattle.redodb_conversation.specs.Talks.{history_of, output_of, state_after}
-use Rattle.redodb_conversation.proofs.LawfulBytes.{heard_once}
+use Rattle.redodb_conversation.proofs.LawfulBytes.{received_once}
 use Rattle.redodb_conversation.proofs.LawfulTurns.{rounds_agree, same_rounds}
 use Rattle.redodb_conversation.proofs.laws.conversation_is_determined.Goals as goal
 
@@ -30,10 +30,10 @@ pub returns-clause-bytes : goal.returns-clause-bytes
 returns-clause-bytes c version base second m n former a b rest last one other
     (k, i, j, (p, begins, first_count)) (l, o, q, (r, starts, second_count)) read room room' no_why =
     let before = history_of former in
-    let heard = heard_once a b rest last p.talk.are_lines r.talk.are_lines p.unended r.unended read
+    let received = received_once a b rest last p.talk.are_lines r.talk.are_lines p.unended r.unended read
     in
-    let same = same_rounds a b heard
-    (rounds_agree before a b p.talk.are_rounds r.talk.are_rounds heard room room') no_why in (
+    let same = same_rounds a b received
+    (rounds_agree before a b p.talk.are_rounds r.talk.are_rounds received room room') no_why in (
       p.output ∙ ap (output_of version former) same ∙ sym r.output,
       λ e counts.
           let x = p.log in

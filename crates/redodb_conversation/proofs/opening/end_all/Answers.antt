@@ -3,7 +3,7 @@ use Rattle.std.specs.Prelude.{Result, Ok, Err, OnOk, is_err, Contains}
 use Rattle.std.proofs.Math.Seq.{take-suc}
 use Rattle.std.proofs.lemmas.List.{take_all}
 use Rattle.std.proofs.lemmas.List.Elements.{Contains-get_or}
-use Rattle.redodb_live.specs.Support.Told.{EndsSession}
+use Rattle.redodb_live.specs.Support.Appended.{EndsSession}
 use Rattle.redodb_conversation.proofs.EndedAll.{AreEndedSoFar, session_below, one_more_ended, all_ended}
 use Rattle.redodb_conversation.proofs.opening.end_all.Goals as goal
 
@@ -23,7 +23,7 @@ loop-session-preserved c = λ before logged left.
     subst (λ (ss : List ℕ). Contains ss s) same (Contains-get_or items i 0 within) in
     let ok : is_err c.end.result ≡ false = sym c.is_err.ensures.value ∙ c.if-is_err.false in
     let ends : EndsSession c.loop-session.live c.end.new.self s c.clear.new.self.items
-    c.end.new.said.items c.loop-session.logged.items c.end.new.logged.items =
+    c.end.new.output.items c.loop-session.logged.items c.end.new.logged.items =
     ok_unless_err c.end.result _ ok c.end.ensures.ended in
     let below : s < 65535 =
     session_below c.args.live.now before s logged left
@@ -34,7 +34,7 @@ loop-session-preserved c = λ before logged left.
     (one_more_ended before c.args.live.now c.loop-session.live left (take i items)
     c.args.logged.now.items c.loop-session.logged.items
     (c.loop-session.invariant before logged left) c.end.new.self s c.clear.new.self.items
-    c.end.new.said.items c.end.new.logged.items ends below))
+    c.end.new.output.items c.end.new.logged.items ends below))
 
 pub returns : goal.returns
 returns c = λ before logged left.

@@ -5,5 +5,5 @@ use Rattle.redodb_conversation.proofs.replying.ask_within.Goals as goal
 pub returns-then-size-most-clause-cause : goal.returns-then-size-most-clause-cause
 returns-then-size-most-clause-cause c = grind (arith, common_steps)
 
-pub returns-then-size-most-clause-untold : goal.returns-then-size-most-clause-untold
-returns-then-size-most-clause-untold c = grind (arith, common_steps)
+pub returns-then-size-most-clause-unwritten : goal.returns-then-size-most-clause-unwritten
+returns-then-size-most-clause-unwritten c = grind (arith, common_steps)

@@ -18,15 +18,15 @@ reads-init g c =
       room = c.requires.room;
       few = subst (λ t. length t ≤ 8199) (sym c.requires.none) (omega arith);
       chunk = c.requires.chunk;
-      none_said = c.new-unsent.ensures.said;
+      none_output = c.new-unsent.ensures.output;
       none_logged = c.new-unsent.ensures.logged;
       failures = refl;
       talk = λ start same way. (
         [],
         prefix_of_none c.args.buffers.prefix.items c.requires.none,
         same_waiting start left (known_of c.args.live.now) done [] []
-            c.new-unsent.result.logged.items c.new-unsent.result.said.items []
-            c.new-unsent.ensures.logged c.new-unsent.ensures.said way,
+            c.new-unsent.result.logged.items c.new-unsent.result.output.items []
+            c.new-unsent.ensures.logged c.new-unsent.ensures.output way,
       );
       more = follows_itself done;
     }
@@ -39,10 +39,10 @@ returns-in_default-clause-cause g c = λ start same way.
     let left' = g.R.Read.remaining (inner_of c.read.new.self) in
     let done = g.D.Devices.history c.reads.devices in
     let logged = c.reads.unsent.logged.items in
-    let said = c.reads.unsent.said.items in
-    answered_all start known left' done logged said begun c.reads.invariant.none_logged
-    c.reads.invariant.none_said prefix.unended
-    (kept_left start known left left' done logged said begun at c.in_default.ensures.failed)
+    let output = c.reads.unsent.output.items in
+    answered_all start known left' done logged output begun c.reads.invariant.none_logged
+    c.reads.invariant.none_output prefix.unended
+    (kept_left start known left left' done logged output begun at c.in_default.ensures.failed)
 
 -- whether a read failed in this call
 pub returns-in_default-clause-read : goal.returns-in_default-clause-read
@@ -60,13 +60,13 @@ returns-then-count-eq0-clause-talk g c = λ start same way.
     let left' = g.R.Read.remaining (inner_of c.read.new.self) in
     let done = g.D.Devices.history c.reads.devices in
     let logged = c.reads.unsent.logged.items in
-    let said = c.reads.unsent.said.items in
+    let output = c.reads.unsent.output.items in
     let zero : c.in-Some.count ≡ 0 = c.if-count-eq0.true in
     let taken : Consumes left left' [] =
     subst (λ n. Consumes left left' (take n c.read.new.buf)) zero c.in-Some.ensures.given in
-    answered_all start known left' done logged said begun c.reads.invariant.none_logged
-    c.reads.invariant.none_said prefix.unended
-    (read_none start known left left' done logged said begun at taken)
+    answered_all start known left' done logged output begun c.reads.invariant.none_logged
+    c.reads.invariant.none_output prefix.unended
+    (read_none start known left left' done logged output begun at taken)
 
 pub returns-then-count-eq0-clause-end : goal.returns-then-count-eq0-clause-end
 returns-then-count-eq0-clause-end g c =
@@ -90,7 +90,7 @@ returns-in_err-answer_lines-clause-cause g c =
     (c.in_err-answer_lines.ensures.broken begun prefix start left' same
     (subst (λ t. TalksAt start left' place (begun ++ take c.in-Some.count t)) (sym again)
     (read_more start (known_of c.reads.live) left left' (g.D.Devices.history c.reads.devices)
-    c.reads.unsent.logged.items c.reads.unsent.said.items begun at bytes
+    c.reads.unsent.logged.items c.reads.unsent.output.items begun at bytes
     c.in-Some.ensures.given))))
 
 pub reads-preserved : goal.reads-preserved
@@ -98,7 +98,7 @@ reads-preserved g c = record {
   room = c.answer_lines.ensures.room;
   few = c.in_ok-answer_lines.ensures.few;
   chunk = grind (arith, common_steps);
-  none_said = c.in_ok-answer_lines.ensures.none_said;
+  none_output = c.in_ok-answer_lines.ensures.none_output;
   none_logged = c.in_ok-answer_lines.ensures.none_logged;
   failures = c.in-Some.ensures.count ∙ c.reads.invariant.failures;
   talk = λ start same way.
@@ -115,15 +115,15 @@ reads-preserved g c = record {
       same
       (subst (λ t. TalksAt start left' place (begun ++ take c.in-Some.count t)) (sym again)
       (read_more start (known_of c.reads.live) left left' (g.D.Devices.history c.reads.devices)
-      c.reads.unsent.logged.items c.reads.unsent.said.items begun at bytes
+      c.reads.unsent.logged.items c.reads.unsent.output.items begun at bytes
       c.in-Some.ensures.given)) in (
         later,
         new_prefix,
         waiting_again start left' live (g.D.Devices.history c.compact.new.devices) unsent later
-            c.in_ok-answer_lines.ensures.none_logged c.in_ok-answer_lines.ensures.none_said
+            c.in_ok-answer_lines.ensures.none_logged c.in_ok-answer_lines.ensures.none_output
             (c.in_ok-compact.ensures.talk c.args.sync later start left' same
             (none_waiting start left' live done unsent later
-            c.in_ok-answer_lines.ensures.none_logged c.in_ok-answer_lines.ensures.none_said
+            c.in_ok-answer_lines.ensures.none_logged c.in_ok-answer_lines.ensures.none_output
             (subst (TalksAt start left' (as_place live done unsent)) (append-nil later) new_at))),
       );
   more = follows_all (g.D.Devices.history c.args.devices.now)
@@ -137,8 +137,8 @@ pub returns-clause-cause : goal.returns-clause-cause
 returns-clause-cause g c = λ start same way.
     let (begun, prefix, at) = c.reads.invariant.talk start same way in
     answered_all start (known_of c.reads.live) (g.R.Read.remaining (inner_of c.reads.input))
-    (g.D.Devices.history c.reads.devices) c.reads.unsent.logged.items c.reads.unsent.said.items
-    begun c.reads.invariant.none_logged c.reads.invariant.none_said prefix.unended at
+    (g.D.Devices.history c.reads.devices) c.reads.unsent.logged.items c.reads.unsent.output.items
+    begun c.reads.invariant.none_logged c.reads.invariant.none_output prefix.unended at
 
 pub returns-in_err-answer_lines-clause-device : goal.returns-in_err-answer_lines-clause-device
 returns-in_err-answer_lines-clause-device g c =
@@ -170,13 +170,13 @@ returns-in_err-compact-clause-cause g c =
     same
     (subst (λ t. TalksAt start left' place (begun ++ take c.in-Some.count t)) (sym again)
     (read_more start (known_of c.reads.live) left left' (g.D.Devices.history c.reads.devices)
-    c.reads.unsent.logged.items c.reads.unsent.said.items begun at bytes
+    c.reads.unsent.logged.items c.reads.unsent.output.items begun at bytes
     c.in-Some.ensures.given)) in
     send_cause_talks start (known_of live) left' (g.D.Devices.history c.compact.new.devices)
     c.in_err-compact.field-0.0 c.in_err-compact.ensures.cause
     (c.in_err-compact.ensures.broken c.args.sync later start left' same
     (none_waiting start left' live done unsent later
-    c.in_ok-answer_lines.ensures.none_logged c.in_ok-answer_lines.ensures.none_said
+    c.in_ok-answer_lines.ensures.none_logged c.in_ok-answer_lines.ensures.none_output
     (subst (TalksAt start left' (as_place live done unsent)) (append-nil later) new_at))))
 
 pub returns-in_err-compact-clause-device : goal.returns-in_err-compact-clause-device

@@ -12,7 +12,7 @@ invariant-reads g l = record {
   room : 8199 ≤ vec_capacity l.prefix;
   few : length l.prefix.items ≤ 8199;
   chunk : 0 < length l.chunk.items;
-  none_said : l.unsent.said.items ≡ [];
+  none_output : l.unsent.output.items ≡ [];
   none_logged : l.unsent.logged.items ≡ [];
   failures : failures_of l.input ≡ failures_of l.initial.input;
   talk : TalksFrom l.sync (known_of l.initial.live)

@@ -36,13 +36,13 @@ as_known before after old new n names was is count grows same first =
 
 pub returns-in-Err-clause-known : goal.returns-in-Err-clause-known
 returns-in-Err-clause-known c =
-    as_known c.self.inside c.self-2.inside c.args.self.now c.hear.new.self c.len-count.result
+    as_known c.self.inside c.self-2.inside c.args.self.now c.read_and_obey.new.self c.len-count.result
     c.keep_first.new.self c.self.view_is c.self-2.view_is c.len-count.ensures.count
     c.in-Err.ensures.kept c.in-Err.ensures.known c.keep_first.ensures
 
 pub invariant_of-self : goal.invariant_of-self
 invariant_of-self c =
-    let known = as_known c.self.inside c.self-2.inside c.args.self.now c.hear.new.self
+    let known = as_known c.self.inside c.self-2.inside c.args.self.now c.read_and_obey.new.self
     c.len-count.result c.keep_first.new.self c.self.view_is c.self-2.view_is
     c.len-count.ensures.count c.in-Err.ensures.kept c.in-Err.ensures.known c.keep_first.ensures in
     let state = ap (λ (l : LiveState). state_of l.tables) c.self-2.view_is
@@ -64,4 +64,4 @@ pub returns-in-Ok-clause-no_fault : goal.returns-in-Ok-clause-no_fault
 returns-in-Ok-clause-no_fault c =
     let answered = c.in-Ok.ensures.answered in
     no_fault_in_a_line c.args.self.now.names c.args.text.now answered.line.command
-    c.hear.new.self.names answered.is.said answered.is.named
+    c.read_and_obey.new.self.names answered.is.parsed answered.is.named

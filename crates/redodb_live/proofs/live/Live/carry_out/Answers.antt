@@ -8,16 +8,16 @@ use Rattle.redodb_database.specs.Tables.{state_of, tables_count}
 use Rattle.redodb_history.specs.Histories.{line_text_of}
 use Rattle.redodb_live.specs.Support.Kept.{live_of}
 use Rattle.redodb_live.specs.Support.LiveState.{LiveState, calls_in}
-use Rattle.redodb_live.specs.Support.Told.{IsDue, IsTold}
+use Rattle.redodb_live.specs.Support.Appended.{IsDue, IsReplyLine}
 use Rattle.redodb_live.proofs.Answering.{below_more, now_below}
-use Rattle.redodb_live.proofs.Obeying.{IsUntoldFor, kept_after, obeyed, untold, would_obey}
+use Rattle.redodb_live.proofs.Obeying.{IsUnwrittenFor, kept_after, obeyed, unobeyed, would_obey}
 use Rattle.redodb_live.proofs.live.Live.carry_out.Goals as goal
 use Rattle.redodb_live.proofs.live.Live.carry_out.Goals.{After-take_line-old_line}
 
-told : (live : LiveState) (line : LineOfNumbers) (reply : ReplyOfNumbers) (text : Text)
+as_reply_line : (live : LiveState) (line : LineOfNumbers) (reply : ReplyOfNumbers) (text : Text)
     → IsDue live line reply → text ≡ line_text_of (line_at live.names line)
-    → IsTold live line.session (command_of line.command) line reply text
-told live line reply text due is = record {
+    → IsReplyLine live line.session (command_of line.command) line reply text
+as_reply_line live line reply text due is = record {
   session_is = refl;
   command_is = refl;
   answers = due.answers;
@@ -61,8 +61,8 @@ change-requires-clause-numbers c =
     below_more (length c.self.inside.names) (tables_count c.self.inside.redo)
     (command_of line.command) due.count due.below
 
-pub returns-in_err-tell_within-clause-cause : goal.returns-in_err-tell_within-clause-cause
-returns-in_err-tell_within-clause-cause c =
+pub returns-in_err-append_within-clause-cause : goal.returns-in_err-append_within-clause-cause
+returns-in_err-append_within-clause-cause c =
     let names = c.self.inside.names in
     let tables = c.self.inside.redo in
     let line = c.args.line.now in
@@ -70,18 +70,18 @@ returns-in_err-tell_within-clause-cause c =
     let text = c.in_ok-text.text.items in
     let command = command_of line.command in
     let whole = c.self.view_is ∙ c.take_line-old_line.ensures in
-    let due = due (goal.at.returns-in_err-tell_within-clause-cause c).After-take_line-old_line
+    let due = due (goal.at.returns-in_err-append_within-clause-cause c).After-take_line-old_line
     (live_of c.self.inside) c.self.view_is in
-    let is = told (live_of c.self.inside) line reply text due c.in_ok-text.ensures in
-    let failed = err_from_is_err_and c.from_residual-in_err-tell_within.result
-    c.from_residual-in_err-tell_within.ensures.1 in
+    let is = as_reply_line (live_of c.self.inside) line reply text due c.in_ok-text.ensures in
+    let failed = err_from_is_err_and c.from_residual-in_err-append_within.result
+    c.from_residual-in_err-append_within.ensures.1 in
     rw (failed.1, failed.2)
-    (untold c.args.self.now line.session command c.args.most c.in_err-tell_within.field-0.0 text
+    (unobeyed c.args.self.now line.session command c.args.most c.in_err-append_within.field-0.0 text
     (would_obey names due.names tables c.self.invariant.state line.session command due.below line
     reply text is c.args.self.now (ap (λ (l : LiveState). l.names) whole)
     (ap (λ (l : LiveState). state_of l.tables) whole))
-    (subst (λ (t : Text). IsUntoldFor t c.args.most c.in_err-tell_within.field-0.0)
-    c.deref.ensures.value c.in_err-tell_within.ensures.cause))
+    (subst (λ (t : Text). IsUnwrittenFor t c.args.most c.in_err-append_within.field-0.0)
+    c.deref.ensures.value c.in_err-append_within.ensures.cause))
 
 pub invariant_of-self : goal.invariant_of-self
 invariant_of-self c =
@@ -92,7 +92,7 @@ invariant_of-self c =
     let text = c.in_ok-text.text.items in
     let due = due (goal.at.invariant_of-self c).After-take_line-old_line
     (live_of c.self.inside) c.self.view_is in
-    let is = told (live_of c.self.inside) line reply text due c.in_ok-text.ensures in
+    let is = as_reply_line (live_of c.self.inside) line reply text due c.in_ok-text.ensures in
     record {
       few = c.self.invariant.few;
       state = kept_after names due.names tables c.self.invariant.state line.session
@@ -111,16 +111,16 @@ returns-clause-obeyed c =
     let whole = c.self.view_is ∙ c.take_line-old_line.ensures in
     let due = due (goal.at.returns-clause-obeyed c).After-take_line-old_line
     (live_of c.self.inside) c.self.view_is in
-    let is = told (live_of c.self.inside) line reply text due c.in_ok-text.ensures in
-    let said = c.args.said.now.items in
+    let is = as_reply_line (live_of c.self.inside) line reply text due c.in_ok-text.ensures in
+    let output = c.args.output.now.items in
     let logged = c.args.logged.now.items in
     let changes = c.changes-changes.result in
     obeyed names due.names tables c.self.invariant.state line.session (command_of line.command)
     due.below line reply text is c.change.new.self c.change.ensures.after c.change.ensures.calls
-    c.args.self.now said c.tell_within.new.said.items logged c.tell_within.new.logged.items changes
+    c.args.self.now output c.append_within.new.output.items logged c.append_within.new.logged.items changes
     (ap (λ (l : LiveState). l.names) whole) (ap (λ (l : LiveState). state_of l.tables) whole)
     (ap calls_in whole) c.changes-changes.ensures
-    (c.in_ok-tell_within.ensures.said ∙ ap (λ (t : Text). said ++ t) c.deref.ensures.value)
-    (c.in_ok-tell_within.ensures.logged
+    (c.in_ok-append_within.ensures.output ∙ ap (λ (t : Text). output ++ t) c.deref.ensures.value)
+    (c.in_ok-append_within.ensures.logged
     ∙ ap (λ (t : Text). logged ++ t) (c.text_if.ensures
     ∙ ap (λ (t : Text). cond changes t []) c.deref-2.ensures.value))

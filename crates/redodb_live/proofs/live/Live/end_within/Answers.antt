@@ -12,9 +12,9 @@ use Rattle.redodb_live.specs.Support.Ended.{end_text}
 use Rattle.redodb_live.specs.Support.ClosingLines.{AreClosing, TakesNoRoom}
 use Rattle.redodb_live.specs.Support.Kept.{live_of}
 use Rattle.redodb_live.specs.Support.LiveState.{LiveState}
-use Rattle.redodb_live.specs.Support.Told.{EndsSession}
-use Rattle.redodb_live.specs.Support.Withheld.{WouldEnd}
-use Rattle.redodb_live.proofs.Ending.{close_below, close_calls, close_legal, close_room, ends, kept_end, told_below, would_end}
+use Rattle.redodb_live.specs.Support.Appended.{EndsSession}
+use Rattle.redodb_live.specs.Support.AnswerFaults.{WouldEnd}
+use Rattle.redodb_live.proofs.Ending.{close_below, close_calls, close_legal, close_room, ends, kept_end, lines_are_below, would_end}
 use Rattle.redodb_live.proofs.live.Live.end_within.Goals as goal
 
 pub lines_text-requires : goal.lines_text-requires
@@ -24,7 +24,7 @@ lines_text-requires c =
     subst (λ (l : LiveState). AreClosing l c.args.session (map line_of lines))
     (sym c.self.view_is) c.in_ok-lines.ensures in
     subst (AreLinesBelow c.self.inside.names) (sym c.deref.ensures.value)
-    (told_below c.self.inside.names c.are_names.ensures c.self.inside.redo
+    (lines_are_below c.self.inside.names c.are_names.ensures c.self.inside.redo
     c.self.invariant.state c.args.session lines closing)
 
 pub close-requires-clause-below : goal.close-requires-clause-below
@@ -97,7 +97,7 @@ returns-clause-ended c =
     let names = c.self.inside.names in
     let tables = c.self.inside.redo in
     let next : LiveState = record { names = names; tables = c.close.new.redo } in
-    let said = c.args.said.now.items in
+    let output = c.args.output.now.items in
     let logged = c.args.logged.now.items in
     let closing : AreClosing (live_of c.self.inside) c.args.session (map line_of lines) =
     subst (λ (l : LiveState). AreClosing l c.args.session (map line_of lines))
@@ -106,8 +106,8 @@ returns-clause-ended c =
     c.in_ok-kept.ensures
     ∙ ap (λ (ls : List Line). flat_map line_text_of (map (line_at names) ls))
     c.deref.ensures.value in
-    subst (λ (l : LiveState). EndsSession l next c.args.session said c.tell.new.said.items logged
-    c.tell.new.logged.items) c.self.view_is
+    subst (λ (l : LiveState). EndsSession l next c.args.session output c.append.new.output.items logged
+    c.append.new.logged.items) c.self.view_is
     (ends names c.are_names.ensures tables c.self.invariant.state c.args.session lines closing
     c.close.new.redo
     (c.close.ensures.left
@@ -115,11 +115,11 @@ returns-clause-ended c =
     c.deref-5.ensures.value)
     (c.close.ensures.calls
     ∙ ap (λ (ls : List Line). calls_of tables + length ls) c.deref-5.ensures.value)
-    said c.tell.new.said.items logged c.tell.new.logged.items
-    (c.in_ok-tell.ensures.said
-    ∙ ap (λ (t : Text). said ++ t) (c.deref-3.ensures.value ∙ c.in_ok-text.ensures
+    output c.append.new.output.items logged c.append.new.logged.items
+    (c.in_ok-append.ensures.output
+    ∙ ap (λ (t : Text). output ++ t) (c.deref-3.ensures.value ∙ c.in_ok-text.ensures
     ∙ ap (λ (t : Text). t ++ end_text c.args.session) (c.deref-2.ensures.value ∙ kept)))
-    (c.in_ok-tell.ensures.logged
+    (c.in_ok-append.ensures.logged
     ∙ ap (λ (t : Text). logged ++ t) (c.deref-4.ensures.value ∙ kept)))
 
 pub returns-then-size-most-clause-cause : goal.returns-then-size-most-clause-cause
@@ -148,9 +148,9 @@ returns-then-size-most-clause-cause c =
 
 pub returns-clause-fits : goal.returns-clause-fits
 returns-clause-fits c =
-    let said = c.args.said.now.items in
+    let output = c.args.output.now.items in
     let text = c.in_ok-text.text in
     let counted : vec_len text ≡ length text.items = search rules in
-    let told = ap length (c.in_ok-tell.ensures.said
-    ∙ ap (λ (t : Text). said ++ t) c.deref-3.ensures.value) in
-    omega (arith, told, length-append said text.items, c.len-size.ensures ∙ counted)
+    let grown = ap length (c.in_ok-append.ensures.output
+    ∙ ap (λ (t : Text). output ++ t) c.deref-3.ensures.value) in
+    omega (arith, grown, length-append output text.items, c.len-size.ensures ∙ counted)

@@ -20,7 +20,7 @@ returns-in_ok-found-in-Why-clause-answer c =
     let old = c.args.line.now.items in
     let new = c.put_why.new.out.items in
     let found = c.in_ok-found-in-Why.found in
-    let told = subst (λ (l : LiveState). OnOk c.put_why.result (new
+    let written = subst (λ (l : LiveState). OnOk c.put_why.result (new
     ≡ old ++ flat_map after_space
     (why_words c.args.name.now (option_map (why_at l.names) found))))
     (c.self.view_is ∙ c.why.ensures.kept) c.put_why.ensures in
@@ -30,7 +30,7 @@ returns-in_ok-found-in-Why-clause-answer c =
       c.in_ok-found-in-Why.ensures.why,
       c.in_ok-found-in-Why.ensures.form,
       e,
-    )) told
+    )) written
 
 pub returns-in_ok-deps-in-Deps-clause-answer : goal.returns-in_ok-deps-in-Deps-clause-answer
 returns-in_ok-deps-in-Deps-clause-answer c =
@@ -38,7 +38,7 @@ returns-in_ok-deps-in-Deps-clause-answer c =
     let old = c.args.line.now.items in
     let new = c.put_deps.new.out.items in
     let deps = c.in_ok-deps-in-Deps.deps in
-    let told = subst (λ (l : LiveState). OnOk c.put_deps.result
+    let written = subst (λ (l : LiveState). OnOk c.put_deps.result
     (new ≡ old ++ flat_map after_space (deps_words (deps_at l.names deps)))) c.self-in-Deps.view_is
     c.put_deps.ensures in
     on_ok_weaker c.put_deps.result (λ e. (
@@ -47,7 +47,7 @@ returns-in_ok-deps-in-Deps-clause-answer c =
       c.in_ok-deps-in-Deps.ensures.deps,
       c.in_ok-deps-in-Deps.ensures.form,
       e,
-    )) told
+    )) written
 
 pub returns-in_ok-users-in-Users-clause-answer : goal.returns-in_ok-users-in-Users-clause-answer
 returns-in_ok-users-in-Users-clause-answer c =
@@ -55,7 +55,7 @@ returns-in_ok-users-in-Users-clause-answer c =
     let old = c.args.line.now.items in
     let new = c.put_users.new.out.items in
     let users = c.in_ok-users-in-Users.users in
-    let told = subst (λ (l : LiveState). OnOk c.put_users.result
+    let written = subst (λ (l : LiveState). OnOk c.put_users.result
     (new ≡ old ++ flat_map after_space (users_words (users_at l.names users))))
     c.self-in-Users.view_is c.put_users.ensures in
     on_ok_weaker c.put_users.result (λ e. (
@@ -64,7 +64,7 @@ returns-in_ok-users-in-Users-clause-answer c =
       c.in_ok-users-in-Users.ensures.users,
       c.in_ok-users-in-Users.ensures.form,
       e,
-    )) told
+    )) written
 
 pub returns-in-State-clause-answer : goal.returns-in-State-clause-answer
 returns-in-State-clause-answer c =

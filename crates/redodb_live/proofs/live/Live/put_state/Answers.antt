@@ -9,16 +9,16 @@ use Rattle.redodb_live.specs.Answers.{Answer, Standing, answer_words}
 use Rattle.redodb_live.specs.Support.AnswerForms.{HasAnswerForm}
 use Rattle.redodb_live.specs.Support.LiveState.{LiveState, state_in}
 use Rattle.redodb_live.specs.Support.Within.{IsStateWithin}
-use Rattle.redodb_live.proofs.Asking.{told_state}
+use Rattle.redodb_live.proofs.Asking.{state_over_names}
 use Rattle.redodb_live.proofs.live.Live.put_state.Goals as goal
 
 -- what is printed is what is true of the name
-told : (c : goal.After-put_state) → Standing (target_state_of c.state.result) c.holder.result
+same_standing : (c : goal.After-put_state) → Standing (target_state_of c.state.result) c.holder.result
     c.file.result
     ≡ Standing (target_state (state_in c.args.self.now).records c.args.name.now)
     ((state_in c.args.self.now).locks.holder c.args.name.now)
     ((state_in c.args.self.now).records.cell c.args.name.now).file
-told c =
+same_standing c =
     let live : LiveState = c.args.self.now in
     let known = c.in-Some.ensures.known in
     let n = c.in-Some.n in
@@ -31,7 +31,7 @@ told c =
     c.self.view_is c.holder.ensures in
     let is_file = subst (λ (l : LiveState). c.file.result ≡ ((tables_records l.tables).cell n).file)
     c.self.view_is c.file.ensures in
-    told_state live.names c.in-Some.ensures.names (state_of live.tables) within n
+    state_over_names live.names c.in-Some.ensures.names (state_of live.tables) within n
     c.args.name.now known.among_names known.named state c.holder.result c.file.result is_state
     is_holder is_file
 
@@ -39,8 +39,8 @@ pub returns-in-Some-clause-words : goal.returns-in-Some-clause-words
 returns-in-Some-clause-words c =
     IfOk-equal c.put_state.result _ _ _ c.put_state.ensures.words
     (ap (λ (answer : Answer).
-    c.args.line.now.items ++ flat_map after_space (answer_words c.args.name.now answer)) (told c))
+    c.args.line.now.items ++ flat_map after_space (answer_words c.args.name.now answer)) (same_standing c))
 
 pub returns-in-Some-clause-form : goal.returns-in-Some-clause-form
 returns-in-Some-clause-form c =
-    on_ok_weaker c.put_state.result (subst HasAnswerForm (told c)) c.put_state.ensures.form
+    on_ok_weaker c.put_state.result (subst HasAnswerForm (same_standing c)) c.put_state.ensures.form

@@ -1,7 +1,7 @@
 use Rattle.std.proofs.Common.{◌<◌, [], length, sym, subst, arith}
 use Rattle.redodb_live.specs.Support.Kept.{live_of}
 use Rattle.redodb_live.specs.Support.LiveState.{LiveState}
-use Rattle.redodb_live.proofs.Parts.{AreSlotsOf, told_slots}
+use Rattle.redodb_live.proofs.Parts.{AreSlotsOf, slots_over_names}
 use Rattle.redodb_live.proofs.live.Live.slots.Goals as goal
 
 -- the slots of a number that the database knows
@@ -10,7 +10,7 @@ known c =
     let t = c.args.t in
     let below = subst (λ (l : LiveState). t < length l.names) (sym c.self.view_is) c.requires in
     subst (λ (l : LiveState). AreSlotsOf l t c.slots.result.now) c.self.view_is
-    (told_slots (live_of c.self.inside) c.are_names.ensures c.self.invariant.state.within t below
+    (slots_over_names (live_of c.self.inside) c.are_names.ensures c.self.invariant.state.within t below
     c.slots.result.now c.slots.ensures.change c.slots.ensures.created)
 
 -- no slots of another
@@ -21,7 +21,7 @@ unknown c =
     let none = c.count.ensures.others t
     (omega (arith, c.if-t-count.false, c.count.ensures.count)) in
     subst (λ (l : LiveState). AreSlotsOf l t []) c.self.view_is
-    (told_slots (live_of c.self.inside) c.are_names.ensures c.self.invariant.state.within t below
+    (slots_over_names (live_of c.self.inside) c.are_names.ensures c.self.invariant.state.within t below
     [] (λ n. sym (none.change n)) (λ n. sym (none.created n)))
 
 pub returns-then-t-count-clause-change : goal.returns-then-t-count-clause-change

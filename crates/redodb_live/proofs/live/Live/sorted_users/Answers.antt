@@ -6,7 +6,7 @@ use Rattle.redodb_database.specs.Tables.{state_of, tables_records}
 use Rattle.redodb_live.specs.Support.LiveState.{LiveState}
 use Rattle.redodb_live.specs.Support.Ordered.{AreSortedAgain}
 use Rattle.redodb_live.specs.Support.Within.{IsStateWithin}
-use Rattle.redodb_live.proofs.Asking.{users_below, sorted_users, told_users}
+use Rattle.redodb_live.proofs.Asking.{users_below, sorted_users, users_over_names}
 use Rattle.redodb_live.proofs.Forms.{users_form}
 use Rattle.redodb_live.proofs.live.Live.sorted_users.Goals as goal
 
@@ -40,7 +40,7 @@ returns-clause-users c =
     let live : LiveState = c.args.self.now in
     let within = subst (λ (l : LiveState). IsStateWithin (length l.names) (state_of l.tables))
     c.self.view_is c.self.invariant.state.within in
-    told_users live.names c.requires.names (state_of live.tables) within c.args.n c.requires.name
+    users_over_names live.names c.requires.names (state_of live.tables) within c.args.n c.requires.name
     (record {
       change = c.sort.new.numbers.items;
       created = c.sort-2.new.numbers.items;

@@ -6,7 +6,7 @@ use Rattle.redodb_database.specs.Meaning.{why_of}
 use Rattle.redodb_database.specs.Tables.{state_of, tables_records}
 use Rattle.redodb_live.specs.Support.LiveState.{LiveState, state_in}
 use Rattle.redodb_live.specs.Support.Within.{IsStateWithin}
-use Rattle.redodb_live.proofs.Asking.{told_why, told_why_below}
+use Rattle.redodb_live.proofs.Asking.{why_over_names, found_why_below}
 use Rattle.redodb_live.proofs.Forms.{why_form}
 use Rattle.redodb_live.proofs.live.Live.why.Goals as goal
 
@@ -16,22 +16,22 @@ returns-in-Some-clause-why c =
     let known = c.in-Some.ensures.known in
     let within = subst (λ (l : LiveState). IsStateWithin (length l.names) (state_of l.tables))
     c.self.view_is c.self.invariant.state.within in
-    let tells = subst (λ (l : LiveState). IfOk c.why.result (λ found.
+    let found_why = subst (λ (l : LiveState). IfOk c.why.result (λ found.
     TellsWhy (tables_records l.tables) c.in-Some.t (option_map why_of found)))
     c.self.view_is c.why.ensures.why in
-    IfOk-weaker c.why.result _ _ (told_why live.names c.in-Some.ensures.names
-    (state_of live.tables) within c.in-Some.t c.args.name.now known.among_names known.named) tells
+    IfOk-weaker c.why.result _ _ (why_over_names live.names c.in-Some.ensures.names
+    (state_of live.tables) within c.in-Some.t c.args.name.now known.among_names known.named) found_why
 
 pub returns-in-Some-clause-below : goal.returns-in-Some-clause-below
 returns-in-Some-clause-below c =
     let live : LiveState = c.args.self.now in
     let within = subst (λ (l : LiveState). IsStateWithin (length l.names) (state_of l.tables))
     c.self.view_is c.self.invariant.state.within in
-    let tells = subst (λ (l : LiveState). IfOk c.why.result (λ found.
+    let found_why = subst (λ (l : LiveState). IfOk c.why.result (λ found.
     TellsWhy (tables_records l.tables) c.in-Some.t (option_map why_of found)))
     c.self.view_is c.why.ensures.why in
-    IfOk-weaker c.why.result _ _ (told_why_below live.names c.in-Some.ensures.names
-    (state_of live.tables) within c.in-Some.t) tells
+    IfOk-weaker c.why.result _ _ (found_why_below live.names c.in-Some.ensures.names
+    (state_of live.tables) within c.in-Some.t) found_why
 
 pub returns-in-Some-clause-form : goal.returns-in-Some-clause-form
 returns-in-Some-clause-form c =

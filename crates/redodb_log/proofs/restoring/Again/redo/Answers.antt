@@ -3,7 +3,7 @@ use Rattle.std.proofs.lemmas.Bool.Decides.{Decides-eqb}
 use Rattle.std.proofs.lemmas.Slice.Eq.{strip_prefix_is}
 use Rattle.redodb_model.specs.Names.{Text}
 use Rattle.redodb_text.specs.Texts.{command_text_of}
-use Rattle.redodb_live.specs.Support.Told.{AnswersText}
+use Rattle.redodb_live.specs.Support.Appended.{AnswersText}
 use Rattle.redodb_log.proofs.Asked.{line_said, asks_for}
 use Rattle.redodb_log.proofs.Redone.{faulty, next_or_none}
 use Rattle.redodb_log.proofs.restoring.Again.redo.Goals as goal
@@ -20,11 +20,11 @@ returns-in-Ok-clause-next c =
     let old = c.args.self.now.live in
     let new = c.answer.new.self in
     let own = c.in-Some.command.now in
-    let said = c.answer.new.said.items in
-    let is = subst (λ (t : Text). AnswersText old new c.in-Some.session own t said
+    let output = c.answer.new.output.items in
+    let is = subst (λ (t : Text). AnswersText old new c.in-Some.session own t output
     c.clear-2.new.self.items c.answer.new.logged.items) c.clear.ensures.items
     c.in-Ok.ensures.answered in
-    next_or_none old new c.args.left.now own said c.clear-2.new.self.items
+    next_or_none old new c.args.left.now own output c.clear-2.new.self.items
     c.answer.new.logged.items c.in-Some.session c.in-Some.ensures.session is
     (λ line rest follows e.
     c.in-Some.ensures.found line.session (command_text_of line.command) line.command

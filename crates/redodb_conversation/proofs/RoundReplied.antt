@@ -18,13 +18,12 @@ use Rattle.redodb_history.specs.Histories.{line_text_of}
 use Rattle.redodb_live.specs.Answers.{names_line}
 use Rattle.redodb_live.specs.Support.AnswerForms.{AnswersInForm}
 use Rattle.redodb_live.specs.Support.LiveState.{LiveState, state_in, calls_in, IsAsKnown}
-use Rattle.redodb_live.specs.Support.Told.{AnswersText, EndsSession, IsUnansweredFor}
-use Rattle.redodb_live.specs.Support.Withheld.{WouldAnswer, WouldEnd, IsWithheldFor, IsUnendedFor}
-use Rattle.redodb_live.specs.Support.Withheld as withheld
+use Rattle.redodb_live.specs.Support.Appended.{AnswersText, EndsSession, IsUnansweredFor}
+use Rattle.redodb_live.specs.Support.AnswerFaults.{WouldAnswer, WouldEnd, IsAnswerFaultFor, IsUnendedFor, IsUnwrittenFor}
 use Rattle.redodb_live.specs.declared.fault.Unanswered.{Unanswered as Why}
 use Rattle.redodb_live.specs.declared.fault.Unanswered.TheVariants.{Memory, Worn, Fault}
-use Rattle.redodb_live.specs.declared.fault.Withheld.{Withheld}
-use Rattle.redodb_live.specs.declared.fault.Withheld.TheVariants.{Unanswered, TooLong}
+use Rattle.redodb_live.specs.declared.fault.AnswerFault.{AnswerFault}
+use Rattle.redodb_live.specs.declared.fault.AnswerFault.TheVariants.{Unanswered, TooLong}
 use Rattle.redodb_conversation.specs.Rounds.{Round, Asks, HasNoSession, IsFaultWord, end_word, end_text_of, names_word, fault_text_of}
 use Rattle.redodb_conversation.specs.Support.Sending.{refusal_word_of}
 use Rattle.redodb_conversation.specs.declared.replying.Replied.TheVariants as replies
@@ -32,9 +31,9 @@ use Rattle.redodb_conversation.specs.Support.Steps.{Known, Refusing, IsStep}
 use Rattle.redodb_conversation.specs.Support.Places.{known_of}
 use Rattle.redodb_conversation.specs.Support.Requests.{Requests, RequestsBadly}
 use Rattle.redodb_conversation.specs.declared.request.Request.TheVariants as requests
-use Rattle.redodb_conversation.specs.Support.Replies.{IsReplied, TellsRound, WouldTell, IsPutOffFor, IsUndoneFor, IsUnsaidFor, IsUntoldFor}
+use Rattle.redodb_conversation.specs.Support.Replies.{IsReplied, AppendsRound, WouldReply, IsPutOffFor, IsUndoneFor, IsInquiryFaultFor}
 use Rattle.redodb_conversation.proofs.LoggedPrefixes.{logs_prefix}
-use Rattle.redodb_conversation.proofs.Steps.{answering_step, ending_step, telling_step, telling_all_step, held_are_known, as_known}
+use Rattle.redodb_conversation.proofs.Steps.{answering_step, ending_step, inquiring_step, listing_step, held_are_known, as_known}
 
 pub done_is_step : (old new : Known) (round : Round) → IsReplied replies.Done old new round
     → IsStep old new round
@@ -43,90 +42,90 @@ done_is_step old new round (inr (inl is)) = inr (inl is)
 done_is_step old new round (inr (inr (inl is))) = inr (inr (inl is))
 done_is_step old new round (inr (inr (inr is))) = inr (inr (inr (inl is)))
 
-module _ (old : LiveState) (heard : Text) (session : ℕ) where
-  pub answered_round : (new : LiveState) (text said said' logged logged' : Text)
-      → AnswersText old new session text said said' logged logged' → Asks heard session text
-      → TellsRound replies.Done (known_of old) (known_of new) heard said said' logged logged'
-  answered_round new text said said' logged logged' is asks =
-      let (round, is_heard, step, says, logs) =
-      answering_step old new heard session text said said' logged logged' asks is in
+module _ (old : LiveState) (received : Text) (session : ℕ) where
+  pub answered_round : (new : LiveState) (text output output' logged logged' : Text)
+      → AnswersText old new session text output output' logged logged' → Asks received session text
+      → AppendsRound replies.Done (known_of old) (known_of new) received output output' logged logged'
+  answered_round new text output output' logged logged' is asks =
+      let (round, is_received, step, writes, logs) =
+      answering_step old new received session text output output' logged logged' asks is in
       record {
         round = round;
-        heard_is = is_heard;
+        received_is = is_received;
         step = inl step;
-        says = says;
+        writes = writes;
         logs = logs;
         prefix = logs_prefix (known_of old) (known_of new) round (inl step);
       }
 
-  pub ended_round : (new : LiveState) (said said' logged logged' : Text)
-      → EndsSession old new session said said' logged logged' → Asks heard session end_word
-      → TellsRound replies.Done (known_of old) (known_of new) heard said said' logged logged'
-  ended_round new said said' logged logged' is asks =
-      let (round, is_heard, step, says, logs) =
-      ending_step old new heard session said said' logged logged' asks is in
+  pub ended_round : (new : LiveState) (output output' logged logged' : Text)
+      → EndsSession old new session output output' logged logged' → Asks received session end_word
+      → AppendsRound replies.Done (known_of old) (known_of new) received output output' logged logged'
+  ended_round new output output' logged logged' is asks =
+      let (round, is_received, step, writes, logs) =
+      ending_step old new received session output output' logged logged' asks is in
       record {
         round = round;
-        heard_is = is_heard;
+        received_is = is_received;
         step = inr (inl step);
-        says = says;
+        writes = writes;
         logs = logs;
         prefix = logs_prefix (known_of old) (known_of new) round (inr (inl step));
       }
 
-  pub told_round : (new : LiveState) → IsAsKnown old new
-      → (text : Text) (inquiry : Inquiry) (name line said said' logged : Text)
-      → Asks heard session text → text ≡ inquiry_text_of inquiry name → inquiry_fault text ≡ None
-      → AnswersInForm (state_in old) session inquiry name line → said' ≡ said ++ line
-      → TellsRound replies.Done (known_of old) (known_of new) heard said said' logged logged
-  told_round new same text inquiry name line said said' logged asks is fits tells e =
-      let (round, is_heard, step, says, logs) =
-      telling_step old new heard session text inquiry name line said said' logged asks is fits
-      tells same e in
+  pub inquired_round : (new : LiveState) → IsAsKnown old new
+      → (text : Text) (inquiry : Inquiry) (name line output output' logged : Text)
+      → Asks received session text → text ≡ inquiry_text_of inquiry name → inquiry_fault text ≡ None
+      → AnswersInForm (state_in old) session inquiry name line → output' ≡ output ++ line
+      → AppendsRound replies.Done (known_of old) (known_of new) received output output' logged logged
+  inquired_round new same text inquiry name line output output' logged asks is fits answers e =
+      let (round, is_received, step, writes, logs) =
+      inquiring_step old new received session text inquiry name line output output' logged asks is fits
+      answers same e in
       record {
         round = round;
-        heard_is = is_heard;
+        received_is = is_received;
         step = inr (inr (inl step));
-        says = says;
+        writes = writes;
         logs = logs;
         prefix = logs_prefix (known_of old) (known_of new) round (inr (inr (inl step)));
       }
 
-  pub told_all_round : (new : LiveState) → IsAsKnown old new → (said said' logged : Text)
-      → Asks heard session names_word
-      → said' ≡ said ++ names_line session old.names (state_in old)
-      → TellsRound replies.Done (known_of old) (known_of new) heard said said' logged logged
-  told_all_round new same said said' logged asks e =
-      let (round, is_heard, step, says, logs) =
-      telling_all_step old new heard session said said' logged asks same e in
+  pub listed_round : (new : LiveState) → IsAsKnown old new → (output output' logged : Text)
+      → Asks received session names_word
+      → output' ≡ output ++ names_line session old.names (state_in old)
+      → AppendsRound replies.Done (known_of old) (known_of new) received output output' logged logged
+  listed_round new same output output' logged asks e =
+      let (round, is_received, step, writes, logs) =
+      listing_step old new received session output output' logged asks same e in
       record {
         round = round;
-        heard_is = is_heard;
+        received_is = is_received;
         step = inr (inr (inr step));
-        says = says;
+        writes = writes;
         logs = logs;
         prefix = logs_prefix (known_of old) (known_of new) round (inr (inr (inr (inl step))));
       }
 
   -- and what the answer would be
   pub would_answer : (text : Text) (size : ℕ) → WouldAnswer old session text size
-      → Asks heard session text → WouldTell (known_of old) heard size
+      → Asks received session text → WouldReply (known_of old) received size
   would_answer text size would asks =
       let line = would.line in
       let same = would.session_is in
       record {
-        round = record { heard = heard; lines = line ∷ []; said = line_text_of line };
+        round = record { received = received; lines = line ∷ []; output = line_text_of line };
         next = record {
           names = would.names_after;
           state = after texts (state_in old) session line.command;
           calls = calls_in old + 1;
         };
-        heard_is = refl;
+        received_is = refl;
         step = inl (record {
           line = line;
           text = text;
-          asks = subst (λ s. Asks heard s text) (sym same) asks;
-          says = would.said;
+          asks = subst (λ s. Asks received s text) (sym same) asks;
+          parsed = would.parsed;
           names_are = would.named.0
               ∙ ap (with_names old.names) (append-nil (names_in line.command));
           few_names = would.named.1;
@@ -135,26 +134,26 @@ module _ (old : LiveState) (heard : Text) (session : ℕ) where
           state_is = ap (λ s. after texts (state_in old) s line.command) (sym same);
           calls_are = refl;
           lines_are = refl;
-          said_is = refl;
+          output_is = refl;
         });
         size_is = would.size_is;
       }
 
-  pub would_end : (size : ℕ) → WouldEnd old session size → Asks heard session end_word
-      → WouldTell (known_of old) heard size
+  pub would_end : (size : ℕ) → WouldEnd old session size → Asks received session end_word
+      → WouldReply (known_of old) received size
   would_end size would asks =
       let lines = would.lines in record {
         round = record {
-          heard = heard;
+          received = received;
           lines = lines;
-          said = flat_map line_text_of lines ++ end_text_of session;
+          output = flat_map line_text_of lines ++ end_text_of session;
         };
         next = record {
           names = old.names;
           state = left_by texts (state_in old) lines;
           calls = calls_in old + length lines;
         };
-        heard_is = refl;
+        received_is = refl;
         step = inr (inl (record {
           session = session;
           asks = asks;
@@ -165,43 +164,43 @@ module _ (old : LiveState) (heard : Text) (session : ℕ) where
           state_is = refl;
           calls_are = refl;
           lines_are = would.is.lines_are;
-          said_is = refl;
+          output_is = refl;
         }));
         size_is = would.size_is;
       }
 
-  pub would_tell : (text : Text) (inquiry : Inquiry) (name line : Text) (size : ℕ)
+  pub would_inquire : (text : Text) (inquiry : Inquiry) (name line : Text) (size : ℕ)
       → text ≡ inquiry_text_of inquiry name → inquiry_fault text ≡ None
       → AnswersInForm (state_in old) session inquiry name line → size ≡ length line
-      → Asks heard session text → WouldTell (known_of old) heard size
-  would_tell text inquiry name line size is fits tells e asks = record {
-    round = record { heard = heard; lines = []; said = line };
+      → Asks received session text → WouldReply (known_of old) received size
+  would_inquire text inquiry name line size is fits answers e asks = record {
+    round = record { received = received; lines = []; output = line };
     next = known_of old;
-    heard_is = refl;
+    received_is = refl;
     step = inr (inr (inl (record {
       session = session;
       inquiry = inquiry;
       name = name;
-      asks = subst (Asks heard session) is asks;
+      asks = subst (Asks received session) is asks;
       fits = subst (λ t. inquiry_fault t ≡ None) is fits;
-      tells = tells;
+      answers = answers;
       same = refl;
       none = refl;
     })));
     size_is = e;
   }
 
-  pub would_tell_all : (size : ℕ) → size ≡ length (names_line session old.names (state_in old))
-      → Asks heard session names_word → WouldTell (known_of old) heard size
-  would_tell_all size e asks = record {
+  pub would_list : (size : ℕ) → size ≡ length (names_line session old.names (state_in old))
+      → Asks received session names_word → WouldReply (known_of old) received size
+  would_list size e asks = record {
     round =
-        record { heard = heard; lines = []; said = names_line session old.names (state_in old) };
+        record { received = received; lines = []; output = names_line session old.names (state_in old) };
     next = known_of old;
-    heard_is = refl;
+    received_is = refl;
     step = inr (inr (inr (inl (record {
       session = session;
       asks = asks;
-      tells = refl;
+      answers = refl;
       same = refl;
       none = refl;
     }))));
@@ -210,16 +209,16 @@ module _ (old : LiveState) (heard : Text) (session : ℕ) where
 
 -- the line of a fault, whose line has no session or this cause
 abbrev IsFaultLine : ℕ → List Text → Text → Text → Type 0
-IsFaultLine calls names heard line =
-    (HasNoSession heard × (line ≡ fault_text_of (codes "0") (codes "bad-session")))
-    ⊎ ((s : ℕ) × (text : Text) × (word : Text) × Asks heard s text
+IsFaultLine calls names received line =
+    (HasNoSession received × (line ≡ fault_text_of (codes "0") (codes "bad-session")))
+    ⊎ ((s : ℕ) × (text : Text) × (word : Text) × Asks received s text
     × IsFaultWord calls names text word × (line ≡ fault_text_of (decimal (s + 1)) word))
 
-module _ (old new : LiveState) (same : IsAsKnown old new) (heard line : Text)
-    (cause : IsFaultLine (calls_in old) old.names heard line)
+module _ (old new : LiveState) (same : IsAsKnown old new) (received line : Text)
+    (cause : IsFaultLine (calls_in old) old.names received line)
   where
     abbrev refused : Round
-    refused = record { heard = heard; lines = []; said = line }
+    refused = record { received = received; lines = []; output = line }
 
     refusing : Refusing (known_of old) (known_of new) refused
     refusing = record {
@@ -228,62 +227,62 @@ module _ (old new : LiveState) (same : IsAsKnown old new) (heard line : Text)
       cause = cause;
     }
 
-    pub refused_round : (said said' logged logged' : Text) → said' ≡ said ++ line
+    pub refused_round : (output output' logged logged' : Text) → output' ≡ output ++ line
         → logged' ≡ logged
-        → TellsRound replies.Fault (known_of old) (known_of new) heard said said' logged logged'
-    refused_round said said' logged logged' says logs = record {
+        → AppendsRound replies.Fault (known_of old) (known_of new) received output output' logged logged'
+    refused_round output output' logged logged' writes logs = record {
       round = refused;
-      heard_is = refl;
+      received_is = refl;
       step = refusing;
-      says = says;
+      writes = writes;
       logs = logs ∙ sym (append-nil logged);
       prefix = (line, refl);
     }
 
-    would_refuse : (size : ℕ) → size ≡ length line → WouldTell (known_of old) heard size
+    would_refuse : (size : ℕ) → size ≡ length line → WouldReply (known_of old) received size
     would_refuse size e = record {
       round = refused;
       next = known_of new;
-      heard_is = refl;
+      received_is = refl;
       step = inr (inr (inr (inr refusing)));
       size_is = e;
     }
 
-    pub refusal_put_off : (most : ℕ) (why : Withheld) → IsUnsaidFor line most why
-        → IsPutOffFor (known_of old) heard most why
+    pub refusal_put_off : (most : ℕ) (why : AnswerFault) → IsUnwrittenFor line most why
+        → IsPutOffFor (known_of old) received most why
     refusal_put_off most (Unanswered why) e = e
     refusal_put_off most (TooLong size) (more, e) = (more, would_refuse size e)
 
 -- why a text was refused, and its fault
-pub undone_end : (live : LiveState) (session : ℕ) (text : Text) (most : ℕ) (why : Withheld)
+pub undone_end : (live : LiveState) (session : ℕ) (text : Text) (most : ℕ) (why : AnswerFault)
     → text ≡ end_word → IsUnendedFor live session most why → IsUndoneFor live session text most why
 undone_end live session text most (Unanswered why) is e = inr (inl (ap refusal_word_of e))
 undone_end live session text most (TooLong size) is (more, would) = (
   more,
-  λ heard asks. would_end live heard session size would (subst (Asks heard session) is asks),
+  λ received asks. would_end live received session size would (subst (Asks received session) is asks),
 )
 
-pub undone_names : (live : LiveState) (session : ℕ) (text : Text) (most : ℕ) (why : Withheld)
+pub undone_names : (live : LiveState) (session : ℕ) (text : Text) (most : ℕ) (why : AnswerFault)
     → text ≡ names_word
-    → withheld.IsUntoldFor (names_line session live.names (state_in live)) most why
+    → IsUnwrittenFor (names_line session live.names (state_in live)) most why
     → IsUndoneFor live session text most why
 undone_names live session text most (Unanswered why) is e = inr (inl (ap refusal_word_of e))
 undone_names live session text most (TooLong size) is (more, e) = (
   more,
-  λ heard asks. would_tell_all live heard session size e (subst (Asks heard session) is asks),
+  λ received asks. would_list live received session size e (subst (Asks received session) is asks),
 )
 
 pub undone_inquiry : (live : LiveState) (session : ℕ) (text : Text) (most : ℕ)
-    (inquiry : Inquiry) (name : Bor Text) (why : Withheld)
+    (inquiry : Inquiry) (name : Bor Text) (why : AnswerFault)
     → Requests text (requests.Inquiry inquiry name)
-    → IsUntoldFor (state_in live) session inquiry name.now most why
+    → IsInquiryFaultFor (state_in live) session inquiry name.now most why
     → IsUndoneFor live session text most why
 undone_inquiry live session text most inquiry name (Unanswered why) (is, fits) e =
     inr (inl (ap refusal_word_of e))
-undone_inquiry live session text most inquiry name (TooLong size) (is, fits) (more, told) = (
+undone_inquiry live session text most inquiry name (TooLong size) (is, fits) (more, answer) = (
   more,
-  λ heard asks.
-      would_tell live heard session text inquiry name.now told.0 size is fits told.1 told.2 asks,
+  λ received asks.
+      would_inquire live received session text inquiry name.now answer.0 size is fits answer.1 answer.2 asks,
 )
 
 pub undone_fault : (live : LiveState) (text : Text) (fault : LineFault) → RequestsBadly text fault
@@ -304,12 +303,12 @@ command_cause live text Worn (other, another, none) worn =
 command_cause live text (Fault fault) (other, another, none) is =
     inl (fault, other, another, asked_of_command 16777216 live.names text none ∙ is, refl)
 
-pub undone_command : (live : LiveState) (session : ℕ) (text : Text) (most : ℕ) (why : Withheld)
-    → Requests text requests.Command → IsWithheldFor live session text most why
+pub undone_command : (live : LiveState) (session : ℕ) (text : Text) (most : ℕ) (why : AnswerFault)
+    → Requests text requests.Command → IsAnswerFaultFor live session text most why
     → IsUndoneFor live session text most why
 undone_command live session text most (Unanswered why) is cause =
     command_cause live text why is cause
 undone_command live session text most (TooLong size) is (more, would) = (
   more,
-  λ heard asks. would_answer live heard session text size would asks,
+  λ received asks. would_answer live received session text size would asks,
 )

@@ -3,8 +3,8 @@ use Rattle.std.proofs.lemmas.Result.{err_from_is_err_and}
 use Rattle.redodb_commands.specs.Meaning.{command_of}
 use Rattle.redodb_commands.specs.Support.Meaning.{command_at}
 use Rattle.redodb_live.proofs.NewNames.{few_new}
-use Rattle.redodb_live.proofs.Obeying.{answered, withheld}
-use Rattle.redodb_live.proofs.live.Live.hear.Goals as goal
+use Rattle.redodb_live.proofs.Obeying.{answered, answer_fault}
+use Rattle.redodb_live.proofs.live.Live.read_and_obey.Goals as goal
 
 pub obey-requires-clause-calls : goal.obey-requires-clause-calls
 obey-requires-clause-calls c =
@@ -16,7 +16,7 @@ obey-requires-clause-calls c =
 pub returns-clause-answered : goal.returns-clause-answered
 returns-clause-answered c =
     answered c.args.self.now c.read.new.self c.obey.new.self c.args.session c.args.text.now
-    (command_of c.in_ok-command.command) c.args.said.now.items c.obey.new.said.items
+    (command_of c.in_ok-command.command) c.args.output.now.items c.obey.new.output.items
     c.args.logged.now.items c.obey.new.logged.items c.read.ensures.state c.read.ensures.known.calls
     c.obey.ensures.names c.in_ok-command.ensures.read c.in_ok-command.ensures.named
     c.in_ok-obey.ensures.obeyed
@@ -26,6 +26,6 @@ returns-in_err-obey-clause-cause c =
     let failed = err_from_is_err_and c.from_residual-in_err-obey.result
     c.from_residual-in_err-obey.ensures.1 in
     rw (failed.1, failed.2)
-    (withheld c.args.self.now c.read.new.self c.args.session c.args.text.now
+    (answer_fault c.args.self.now c.read.new.self c.args.session c.args.text.now
     (command_of c.in_ok-command.command) c.args.most c.in_err-obey.field-0.0 c.read.ensures.state
     c.in_ok-command.ensures.read c.in_ok-command.ensures.named c.in_err-obey.ensures.cause)

@@ -10,10 +10,10 @@ use Rattle.redodb_text.specs.Grammar.{IsCommandLine, AddsNames}
 use Rattle.redodb_history.specs.Histories.{line_text_of}
 use Rattle.redodb_live.specs.Support.Ended.{IsEnded, end_text}
 use Rattle.redodb_live.specs.Support.LiveState.{LiveState, state_in}
-use Rattle.redodb_live.specs.Support.Told.{IsUnansweredFor}
+use Rattle.redodb_live.specs.Support.Appended.{IsUnansweredFor}
 use Rattle.redodb_live.specs.declared.fault.Unanswered.TheVariants.{Memory}
-use Rattle.redodb_live.specs.declared.fault.Withheld.{Withheld}
-use Rattle.redodb_live.specs.declared.fault.Withheld.TheVariants.{Unanswered, TooLong}
+use Rattle.redodb_live.specs.declared.fault.AnswerFault.{AnswerFault}
+use Rattle.redodb_live.specs.declared.fault.AnswerFault.TheVariants.{Unanswered, TooLong}
 
 -- the line that answers the session's command, over the names that its numbers stand for, has so
 -- many bytes
@@ -26,7 +26,7 @@ pub record WouldObey (live : LiveState) (session : ℕ) (command : Command ℕ) 
     pub size_is : size ≡ length (line_text_of line)
 
 -- memory ran out, or that line is longer than `most`
-abbrev pub IsUnobeyedFor : LiveState → ℕ → Command ℕ → ℕ → Withheld → Type 0
+abbrev pub IsUnobeyedFor : LiveState → ℕ → Command ℕ → ℕ → AnswerFault → Type 0
 IsUnobeyedFor live session command most (Unanswered why) = why ≡ Memory
 IsUnobeyedFor live session command most (TooLong size) =
     (most < size) × WouldObey live session command size
@@ -35,16 +35,16 @@ IsUnobeyedFor live session command most (TooLong size) =
 pub record WouldAnswer (live : LiveState) (session : ℕ) (text : Text) (size : ℕ) : Type 0 where
   pub line : Line Text
   pub session_is : line.session ≡ session
-  pub said : IsCommandLine text line.command
+  pub parsed : IsCommandLine text line.command
   pub names_after : List Text
   pub named : AddsNames 16777216 live.names (line.command ∷ []) names_after
   pub answers : Answers texts (state_in live) session line.command line.reply
   pub size_is : size ≡ length (line_text_of line)
 
 -- the cause, or that line is longer than `most`
-abbrev pub IsWithheldFor : LiveState → ℕ → Text → ℕ → Withheld → Type 0
-IsWithheldFor live session text most (Unanswered why) = IsUnansweredFor live text why
-IsWithheldFor live session text most (TooLong size) =
+abbrev pub IsAnswerFaultFor : LiveState → ℕ → Text → ℕ → AnswerFault → Type 0
+IsAnswerFaultFor live session text most (Unanswered why) = IsUnansweredFor live text why
+IsAnswerFaultFor live session text most (TooLong size) =
     (most < size) × WouldAnswer live session text size
 
 -- the answer to the session's end has this many bytes
@@ -54,11 +54,11 @@ pub record WouldEnd (live : LiveState) (session size : ℕ) : Type 0 where
   pub size_is : size ≡ length (flat_map line_text_of lines ++ end_text session)
 
 -- memory ran out, or that is longer than `most`
-abbrev pub IsUnendedFor : LiveState → ℕ → ℕ → Withheld → Type 0
+abbrev pub IsUnendedFor : LiveState → ℕ → ℕ → AnswerFault → Type 0
 IsUnendedFor live session most (Unanswered why) = why ≡ Memory
 IsUnendedFor live session most (TooLong size) = (most < size) × WouldEnd live session size
 
 -- memory ran out, or this text is longer than `most`
-abbrev pub IsUntoldFor : Text → ℕ → Withheld → Type 0
-IsUntoldFor text most (Unanswered why) = why ≡ Memory
-IsUntoldFor text most (TooLong size) = (most < size) × (size ≡ length text)
+abbrev pub IsUnwrittenFor : Text → ℕ → AnswerFault → Type 0
+IsUnwrittenFor text most (Unanswered why) = why ≡ Memory
+IsUnwrittenFor text most (TooLong size) = (most < size) × (size ≡ length text)

@@ -52,7 +52,7 @@ pub record IsDue (live : LiveState) (line : LineOfNumbers) (reply : ReplyOfNumbe
 
 -- the line has the database's reply to the session's command, with its names in the order of their
 -- texts, and this is its text
-pub record IsTold (live : LiveState) (session : ℕ) (command : Command ℕ) (line : LineOfNumbers)
+pub record IsReplyLine (live : LiveState) (session : ℕ) (command : Command ℕ) (line : LineOfNumbers)
     (reply : ReplyOfNumbers) (text : Text) : Type 0 where
   pub session_is : line.session ≡ session
   pub command_is : command_of line.command ≡ command
@@ -60,42 +60,42 @@ pub record IsTold (live : LiveState) (session : ℕ) (command : Command ℕ) (li
   pub sorted : IsSortedReply (by_text live.names).order (reply_of reply) (reply_of line.reply)
   pub text_is : text ≡ line_text_of (line_at live.names line)
 
--- the line was appended to `said`, and to `logged` if it changes something
-pub record TellsLine (old new : LiveState) (line : Line Text) (said said_after logged logged_after
+-- the line was appended to `output`, and to `logged` if it changes something
+pub record AppendsLine (old new : LiveState) (line : Line Text) (output output_after logged logged_after
     : Text) : Type 0 where
-  pub says : said_after ≡ said ++ line_text_of line
+  pub writes : output_after ≡ output ++ line_text_of line
   pub logs : logged_after ≡ logged ++ logged_text (state_in old) line
   pub calls : calls_in new ≡ calls_in old + 1
 
 -- a line answers the session's command, over the names that its numbers stand for
 pub record IsObeyed (old new : LiveState) (session : ℕ) (command : Command ℕ)
-    (said said_after logged logged_after : Text) : Type 0 where
+    (output output_after logged logged_after : Text) : Type 0 where
   pub line : Line Text
   pub session_is : line.session ≡ session
   pub command_is : line.command ≡ named_command (text_at old.names) command
   pub answers : Answers texts (state_in old) session line.command line.reply
   pub after_is : state_in new ≡ after texts (state_in old) session line.command
-  pub told : TellsLine old new line said said_after logged logged_after
+  pub appended : AppendsLine old new line output output_after logged logged_after
 
 -- a line answers the text
 pub record AnswersText (old new : LiveState) (session : ℕ) (text : Text)
-    (said said_after logged logged_after : Text) : Type 0 where
+    (output output_after logged logged_after : Text) : Type 0 where
   pub line : Line Text
   pub is : IsAnswered (state_in old) (state_in new) old.names new.names session text line
-  pub told : TellsLine old new line said said_after logged logged_after
+  pub appended : AppendsLine old new line output output_after logged logged_after
 
--- nothing was appended to `said` or `logged`
-pub record TellsNothing (said said_after logged logged_after : Text) : Type 0 where
-  pub says : said_after ≡ said
+-- nothing was appended to `output` or `logged`
+pub record AppendsNothing (output output_after logged logged_after : Text) : Type 0 where
+  pub writes : output_after ≡ output
   pub logs : logged_after ≡ logged
 
--- the session ended by these lines, which were appended to `said` and `logged`, and then its end to
--- `said`
+-- the session ended by these lines, which were appended to `output` and `logged`, and then its end to
+-- `output`
 pub record EndsSession (old new : LiveState) (session : ℕ)
-    (said said_after logged logged_after : Text) : Type 0 where
+    (output output_after logged logged_after : Text) : Type 0 where
   pub lines : List (Line Text)
   pub is : IsEnded (state_in old) (state_in new) session lines
   pub names : new.names ≡ old.names
   pub calls : calls_in new ≡ calls_in old + length lines
-  pub says : said_after ≡ said ++ (flat_map line_text_of lines ++ end_text session)
+  pub writes : output_after ≡ output ++ (flat_map line_text_of lines ++ end_text session)
   pub logs : logged_after ≡ logged ++ flat_map line_text_of lines

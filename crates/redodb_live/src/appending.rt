@@ -4,11 +4,11 @@ ghost use Rattle.redodb_model.specs.Names.{by_text};
 ghost use Rattle.redodb_commands.specs.Meaning.{command_of, reply_of, line_of, line_at};
 ghost use Rattle.redodb_history.specs.Histories.{line_text_of};
 ghost use Rattle.redodb_live.specs.Support.Ordered.{IsSortedReply};
-ghost use Rattle.redodb_live.specs.Support.Told.{TellsNothing};
+ghost use Rattle.redodb_live.specs.Support.Appended.{AppendsNothing};
 ghost use Rattle.redodb_live.specs.declared.fault.Unanswered.TheVariants.{Memory};
-ghost use Rattle.redodb_live.specs.declared.fault.Withheld.TheVariants.{Unanswered, TooLong};
+ghost use Rattle.redodb_live.specs.declared.fault.AnswerFault.TheVariants.{Unanswered, TooLong};
 
-use crate::fault::Withheld;
+use crate::fault::AnswerFault;
 use crate::ordering::ordered;
 use redodb_commands::{Command, Line, Reply};
 use redodb_history::put_line;
@@ -58,47 +58,47 @@ pub(crate) fn line_text(
     Ok(text)
 }
 
-/// Appends one text to `said` and another to `logged`, or neither.
-pub(crate) fn tell(
-    said: &mut Vec<u8>,
+/// Appends one text to `output` and another to `logged`, or neither.
+pub(crate) fn append(
+    output: &mut Vec<u8>,
     text: &[u8],
     logged: &mut Vec<u8>,
     kept: &[u8],
 ) -> Result<(), AllocError>
-    ensures said { OnOk result (said.new.items ≡ said.old.items ++ text.now) }
+    ensures output { OnOk result (output.new.items ≡ output.old.items ++ text.now) }
     ensures logged { OnOk result (logged.new.items ≡ logged.old.items ++ kept.now) }
     ensures err { OnErr result
-        (TellsNothing said.old.items said.new.items logged.old.items logged.new.items) }
+        (AppendsNothing output.old.items output.new.items logged.old.items logged.new.items) }
 {
-    let before = said.len();
-    said.extend_from_slice(text)?;
+    let before = output.len();
+    output.extend_from_slice(text)?;
     if let Err(refused) = logged.extend_from_slice(kept) {
-        said.truncate(before);
+        output.truncate(before);
         return Err(refused);
     }
     Ok(())
 }
 
-/// Appends one text of at most `most` bytes to `said` and another to `logged`, or neither.
-pub(crate) fn tell_within(
-    said: &mut Vec<u8>,
+/// Appends one text of at most `most` bytes to `output` and another to `logged`, or neither.
+pub(crate) fn append_within(
+    output: &mut Vec<u8>,
     text: &[u8],
     most: usize,
     logged: &mut Vec<u8>,
     kept: &[u8],
-) -> Result<(), Withheld>
-    ensures said { OnOk result (said.new.items ≡ said.old.items ++ text.now) }
+) -> Result<(), AnswerFault>
+    ensures output { OnOk result (output.new.items ≡ output.old.items ++ text.now) }
     ensures logged { OnOk result (logged.new.items ≡ logged.old.items ++ kept.now) }
     ensures fits { OnOk result (length text.now ≤ most) }
     ensures cause { IfErr result (λ why. (why ≡ Unanswered Memory)
         ⊎ ((why ≡ TooLong (length text.now)) × (most < length text.now))) }
     ensures err { OnErr result
-        (TellsNothing said.old.items said.new.items logged.old.items logged.new.items) }
+        (AppendsNothing output.old.items output.new.items logged.old.items logged.new.items) }
 {
     let size = text.len();
     if size > most {
-        return Err(Withheld::TooLong(size));
+        return Err(AnswerFault::TooLong(size));
     }
-    tell(said, text, logged, kept)?;
+    append(output, text, logged, kept)?;
     Ok(())
 }
