@@ -35,12 +35,7 @@ fn is_read<R: Read>(alloc: Global, reader: &mut Watched<R>, want: Option<&[u8]>)
 /// stays noted.
 #[test]
 fn failing_read(rt: HostRuntime) {
-    let mut device = FaultyReader {
-        bytes: b"xxxxx",
-        most: 1,
-        calls: 0,
-        fault: once(2, false),
-    };
+    let mut device = bytes_of(b"xxxxx", once(2, false));
     let mut reader = Watched::new(&mut device);
     for want in [None, Some(b"xxx".as_slice())] {
         assert!(rt; is_read(rt.alloc(), &mut reader, want) && reader.faulted());

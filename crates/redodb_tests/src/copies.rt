@@ -3,7 +3,7 @@ ghost use Rattle.std.specs.Prelude.{length, IfOk};
 ghost use Rattle.redodb_model.specs.Renaming.{IsBelow, IsReplyBelow};
 ghost use Rattle.redodb_commands.specs.Meaning.{command_of, reply_of};
 
-use crate::appending::again;
+use crate::retried::again;
 use redodb_commands::{Command, Reply};
 use redodb_names::{MOST_NAMES, Names};
 use redodb_text::{LineFault, ReadFault, ReplyFault, put_command, put_reply};

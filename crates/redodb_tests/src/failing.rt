@@ -65,9 +65,11 @@ struct Replayed {
     writer: FaultyWriter,
 }
 
-fn replay_with(alloc: Global, reader: Watched<FaultyReader<'_>>, writer: FaultyWriter) -> Replayed {
-    let mut input = reader;
-    let mut writer = writer;
+fn replay_with(
+    alloc: Global,
+    mut input: Watched<FaultyReader<'_>>,
+    mut writer: FaultyWriter,
+) -> Replayed {
     let mut out = Watched::new(&mut writer);
     let fault = replay_text(alloc, &mut input, &mut out).err();
     let output_faulted = out.faulted();
@@ -97,34 +99,28 @@ fn is_replay_written(done: &Replayed, fails: bool, want: &[u8]) -> bool {
         && done.writer.taken.as_slice() == want
 }
 
-/// A replay with reads of at most `most` bytes fails exactly if one of its `reads` has the fault.
-fn replay_read(rt: &impl Abort, alloc: Global, most: usize, reads: usize, fault: DeviceFault) {
-    let done = replay_with(alloc, reader(HISTORY, most, fault), writer(alloc, 1, NEVER));
-    assert!(rt; is_replay_read(&done, fault.at < reads));
-}
-
-/// A replay with writes of at most `most` bytes fails exactly if one of its `writes` has the fault.
-fn replay_written(rt: &impl Abort, alloc: Global, most: usize, writes: usize, fault: DeviceFault) {
-    let done = replay_with(alloc, reader(HISTORY, 1, NEVER), writer(alloc, most, fault));
-    let want = prefix(VERDICT, fault.at, most);
-    assert!(rt; is_replay_written(&done, fault.at < writes, want));
-}
-
 /// The prefix of a text that this many writes take, of this many bytes each.
 fn prefix(text: &[u8], writes: usize, most: usize) -> &[u8] {
     let count = writes.min(text.len()).saturating_mul(most).min(text.len());
     &text[..count]
 }
 
+/// A replay with reads of at most `most` bytes fails exactly if one of its `reads` has the fault.
 fn replay_reads(rt: &impl Abort, alloc: Global, most: usize, reads: usize) {
     for number in 0..count_of_faults(reads) {
-        replay_read(rt, alloc, most, reads, fault(number));
+        let fault = fault(number);
+        let done = replay_with(alloc, reader(HISTORY, most, fault), writer(alloc, 1, NEVER));
+        assert!(rt; is_replay_read(&done, fault.at < reads));
     }
 }
 
+/// A replay with writes of at most `most` bytes fails exactly if one of its `writes` has the fault.
 fn replay_writes(rt: &impl Abort, alloc: Global, most: usize, writes: usize) {
     for number in 0..count_of_faults(writes) {
-        replay_written(rt, alloc, most, writes, fault(number));
+        let fault = fault(number);
+        let done = replay_with(alloc, reader(HISTORY, 1, NEVER), writer(alloc, most, fault));
+        let want = prefix(VERDICT, fault.at, most);
+        assert!(rt; is_replay_written(&done, fault.at < writes, want));
     }
 }
 
@@ -166,10 +162,9 @@ fn run_with<R: Threads + Wait + Sync>(
     alloc: Global,
     first: Watched<FaultyReader<'_>>,
     second: Watched<FaultyReader<'_>>,
-    writer: FaultyWriter,
+    mut writer: FaultyWriter,
 ) -> Ran {
     let mut files = [first, second];
-    let mut writer = writer;
     let mut out = Watched::new(&mut writer);
     let fault = run_texts(rt, alloc, &mut files, &mut out).err();
     let output_faulted = out.faulted();

@@ -1,5 +1,5 @@
 //! Histories are replayed.
-use crate::appending::again;
+use crate::retried::again;
 use redodb_replay::{replay, verdict_text};
 use std::alloc::Global;
 

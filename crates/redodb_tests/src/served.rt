@@ -9,8 +9,9 @@ use std::alloc::Global;
 /// Lines, the greeting and their answers, and the log then.
 const INPUT: &[u8] = b"1 lock a.o\n2 lock a.o\n1 start a.o\n1 end\n";
 
-const OUTPUT: &[u8] = b"redodb-live test restored 0\n1 lock a.o => granted 1\n2 lock a.o => busy 1\n\
-    1 start a.o => ok\n1 failed a.o => ok\n1 unlock a.o => ok\n1 end => ok\n";
+const OUTPUT: &[u8] = b"redodb-live test restored 0\n1 lock a.o => granted 1\n\
+    2 lock a.o => busy 1\n1 start a.o => ok\n1 failed a.o => ok\n1 unlock a.o => ok\n\
+    1 end => ok\n";
 
 const LOGGED: &[u8] = b"redodb-log 1\n1 lock a.o => granted 1\n1 start a.o => ok\n\
     1 failed a.o => ok\n1 unlock a.o => ok\n";
