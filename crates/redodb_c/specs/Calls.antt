@@ -36,8 +36,8 @@ pub record RepliesInto (replied : Replied) (old new : Known) (received room room
 abbrev pub Answers : ℕ → LiveState → LiveState → Text → Text → Text → AnswerSizes → Type 0
 Answers status old new received room room_after sizes =
     ((status ≡ 0) × RepliesInto Done (known_of old) (known_of new) received room room_after sizes)
-    ⊎ (((status ≡ 1) × RepliesInto Fault (known_of old) (known_of new) received room room_after sizes)
-    ⊎ (IsAsKnown old new × (room_after ≡ room)
+    ⊎ (((status ≡ 1) × RepliesInto Fault (known_of old) (known_of new) received room room_after
+    sizes) ⊎ (IsAsKnown old new × (room_after ≡ room)
     × (((status ≡ 2) × (length room < sizes.size) × WouldReply (known_of old) received sizes.size)
     ⊎ ((status ≡ 3) × (sizes.size ≡ 0) × (sizes.logged ≡ 0)))))
 

@@ -9,7 +9,7 @@ use std::alloc::Global;
 
 /// How long an answer is.
 #[repr(C)]
-#[derive(Clone, Copy)]
+#[derive(Clone, Copy, Debug)]
 pub struct AnswerSizes {
     /// How many bytes the answer has, or would have if the buffer is too small.
     pub size: usize,
@@ -35,7 +35,11 @@ pub(crate) fn answer(
 ) -> u32
     ensures { Answers result opened.old opened.new line.now room.old room.new sizes.new }
 {
-    let Opened { live, output, logged } = opened;
+    let Opened {
+        live,
+        output,
+        logged,
+    } = opened;
     output.clear();
     logged.clear();
     match reply(alloc, live, line, room.len(), output, logged) {

@@ -50,6 +50,7 @@ pub extern "C" fn redodb_c_open(alloc: Global, handle: &mut Handle) -> u32
 
 /// What was restored of a log, or comes before the line that differs.
 #[repr(C)]
+#[derive(Debug)]
 pub struct Counts {
     pub lines: usize,
     pub bytes: usize,
