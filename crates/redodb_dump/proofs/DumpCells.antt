@@ -4,7 +4,7 @@ use Rattle.std.specs.Prelude.{◌==◌, is_none}
 use Rattle.std.specs.List.{AllByRecursion}
 use Rattle.std.proofs.lemmas.Bool.Decides.{nat_tests}
 use Rattle.redodb_model.specs.Names.{Text}
-use Rattle.redodb_model.specs.State.{Cell, TargetState, Idle, Building, Built, Failed}
+use Rattle.redodb_model.specs.State.{Cell, TargetState, Idle}
 use Rattle.redodb_model.specs.Support.State.{is_idle}
 use Rattle.redodb_text.specs.Texts.{stamp_word}
 use Rattle.redodb_text.proofs.Steps.{both}
@@ -64,9 +64,7 @@ told_cell file state builds done digest =
 
 idle_is : (state : TargetState) → is_idle state ≡ true → state ≡ Idle
 idle_is Idle e = refl
-idle_is (Building s) e = absurd cc
-idle_is Built e = absurd cc
-idle_is Failed e = absurd cc
+idle_is state e = absurd cc
 
 none_is : {X : Type 0} (o : Option X) → is_none o ≡ true → o ≡ None
 none_is None e = refl

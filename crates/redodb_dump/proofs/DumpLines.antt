@@ -18,7 +18,8 @@ use Rattle.redodb_dump.specs.Dumps.{IsStateOver, cell_words, row_words_at, rows_
 use Rattle.redodb_dump.specs.Support.Forms.{IsToldCell}
 use Rattle.redodb_dump.proofs.DumpMarks.{rows_are_words, one_row}
 use Rattle.redodb_dump.proofs.DumpCells.{AreAlike, cell_are_words, few_cell_words, same_cell}
-use Rattle.redodb_dump.proofs.DumpWords.{IsWord, flag_is_word, name_is_word, number_is_word, same_flag}
+use Rattle.redodb_live.proofs.OneAnswer.{same_flag}
+use Rattle.redodb_dump.proofs.DumpWords.{IsWord, flag_is_word, name_is_word, number_is_word}
 use Rattle.redodb_live.proofs.Lines.{all_both}
 use Rattle.redodb_dump.proofs.Pieces.{all_then, all_flat, few_pieces, line_is_free, IsShortLine, line_is_short, lines_are_short}
 
@@ -147,8 +148,7 @@ rows_are_lines number true rows small all few = (
 pub one_line : (number : ℕ) (always : Bool) (rows : List Text)
     → length (rows_lines number always rows) ≤ 1
 one_line number false [] = omega arith
-one_line number false (r ∷ rows) = omega arith
-one_line number true rows = omega arith
+one_line number always rows = omega arith
 
 -- the number of a line
 abbrev pub number_at : Text → Text
@@ -176,10 +176,6 @@ pub same_target : (number : ℕ) (x y : Bool) (xs ys : List Text) → number < 1
     → AllByRecursion IsWord xs → AllByRecursion IsWord ys
     → rows_lines number x xs ≡ rows_lines number y ys → (x ≡ y) × (xs ≡ ys)
 same_target number false false [] [] small p q e = (refl, refl)
-same_target number false false [] (b ∷ ys) small p q e = absurd (omega (arith, ap length e))
-same_target number false true [] ys small p q e = absurd (omega (arith, ap length e))
-same_target number false false (a ∷ xs) [] small p q e = absurd (omega (arith, ap length e))
-same_target number true false xs [] small p q e = absurd (omega (arith, ap length e))
 same_target number false false (a ∷ xs) (b ∷ ys) small p q e =
     same_rest number false false (a ∷ xs) (b ∷ ys) small p q (ap first_of e)
 same_target number false true (a ∷ xs) ys small p q e =
@@ -188,6 +184,7 @@ same_target number true false xs (b ∷ ys) small p q e =
     same_rest number true false xs (b ∷ ys) small p q (ap first_of e)
 same_target number true true xs ys small p q e =
     same_rest number true true xs ys small p q (ap first_of e)
+same_target number x y xs ys small p q e = absurd (omega (arith, ap length e))
 
 -- a whole body
 

@@ -214,8 +214,7 @@ rows_are_numbered number now (Some mark) created small =
 pub one_row : (number : ℕ) (now : Mark) (change : Option Mark) (created : Bool)
     → length (row_words number now change created) ≤ 1
 one_row number now None false = omega arith
-one_row number now None true = omega arith
-one_row number now (Some mark) created = omega arith
+one_row number now change created = omega arith
 
 -- the same rows
 abbrev pub SameRows : Option Mark → Option Mark → Bool → Bool → Type 0
@@ -252,10 +251,6 @@ head_of ws = get_or ws 0 []
 pub same_rows : (number : ℕ) (now : Mark) (a b : Option Mark) (x y : Bool) → number < 10 ^ 64
     → IsRow a → IsRow b → row_words number now a x ≡ row_words number now b y → SameRows a b x y
 same_rows number now None None false false small p q e = (refl, refl)
-same_rows number now None None false true small p q e = absurd (omega (arith, ap length e))
-same_rows number now None (Some b) false y small p q e = absurd (omega (arith, ap length e))
-same_rows number now None None true false small p q e = absurd (omega (arith, ap length e))
-same_rows number now (Some a) None x false small p q e = absurd (omega (arith, ap length e))
 same_rows number now None None true true small p q e = (refl, refl)
 same_rows number now None (Some b) true y small p q e =
     same_word number now None (Some b) true y small p q (ap head_of e)
@@ -263,3 +258,4 @@ same_rows number now (Some a) None x true small p q e =
     same_word number now (Some a) None x true small p q (ap head_of e)
 same_rows number now (Some a) (Some b) x y small p q e =
     same_word number now (Some a) (Some b) x y small p q (ap head_of e)
+same_rows number now a b x y small p q e = absurd (omega (arith, ap length e))

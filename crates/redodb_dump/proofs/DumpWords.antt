@@ -19,8 +19,9 @@ use Rattle.redodb_text.specs.Replies.{IsDigest}
 use Rattle.redodb_text.specs.Support.ReplyReading.{digest_in}
 use Rattle.redodb_text.proofs.Steps.{both}
 use Rattle.redodb_text.proofs.ReplyWords.{digest_read, digest_is_visible}
-use Rattle.redodb_text.proofs.Spaced.{IsVisible, name_is_visible, stamp_is_visible, stamp_is_no_dash}
+use Rattle.redodb_text.proofs.Spaced.{IsVisible, name_is_visible, stamp_is_visible}
 use Rattle.redodb_live.specs.Answers.{flag_word, holder_word, stage_word}
+use Rattle.redodb_live.proofs.OneAnswer.{stamp_is_not_none}
 use Rattle.redodb_dump.specs.Dumps.{IsStampOrNone, done_word, lettered_word}
 use Rattle.redodb_dump.specs.Support.Forms.{IsHeldBuilt, IsHolder}
 
@@ -81,16 +82,11 @@ stamp_word_is_word None is = (refl, omega arith)
 stamp_word_is_word (Some s) is =
     (stamp_is_visible s is, let short = stamp_is_short s is in omega arith)
 
-pub no_dash : (s : Text) → is_stamp s ≡ true → s ≡ codes "-" → ⊥
-no_dash s is e =
-    let no : true ≡ false = sym (ap (λ w. bytes_eq w (codes "-")) e) ∙ stamp_is_no_dash s is in
-    absurd cc
-
 pub same_stamp : (a b : Option Text) → IsStampOrNone a → IsStampOrNone b
     → stamp_word a ≡ stamp_word b → a ≡ b
 same_stamp None None p q e = refl
-same_stamp None (Some s) p q e = absurd (no_dash s q (sym e))
-same_stamp (Some s) None p q e = absurd (no_dash s p e)
+same_stamp None (Some s) p q e = absurd (stamp_is_not_none s q (sym e))
+same_stamp (Some s) None p q e = absurd (stamp_is_not_none s p e)
 same_stamp (Some s) (Some r) p q e = ap Some e
 
 lettered_is_word : (stamp : Option Text) → IsStampOrNone stamp → IsWord (lettered_word stamp)
@@ -185,9 +181,7 @@ same_holder (Some s) (Some r) p q e =
 
 pub stage_is_word : (state : TargetState) → IsWord (stage_word state)
 stage_is_word Idle = (refl, omega arith)
-stage_is_word (Building s) = (refl, omega arith)
-stage_is_word Built = (refl, omega arith)
-stage_is_word Failed = (refl, omega arith)
+stage_is_word state = (refl, omega arith)
 
 abbrev stage_for : Text → TargetState
 stage_for word =
@@ -209,12 +203,6 @@ same_stage a b holder p q e = ap stage_for e
 pub flag_is_word : (flag : Bool) → IsWord (flag_word flag)
 flag_is_word true = (refl, omega arith)
 flag_is_word false = (refl, omega arith)
-
-pub same_flag : (a b : Bool) → flag_word a ≡ flag_word b → a ≡ b
-same_flag true true e = refl
-same_flag false false e = refl
-same_flag true false e = ap (λ w. bytes_eq w (codes "1")) e
-same_flag false true e = ap (λ w. bytes_eq w (codes "1")) e
 
 pub name_is_word : (t : Text) → is_name t ≡ true → IsWord t
 unfolding is_name

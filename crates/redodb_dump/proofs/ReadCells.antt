@@ -3,7 +3,7 @@ use Rattle.std.proofs.Common.{◌≡◌, ℕ, ◌<◌, Bool, true, false, List, 
 use Rattle.std.specs.Prelude.{decimal}
 use Rattle.std.specs.List.{flat_map}
 use Rattle.redodb_model.specs.Names.{Text}
-use Rattle.redodb_model.specs.State.{Cell, TargetState, Idle, Building, Built, Failed}
+use Rattle.redodb_model.specs.State.{Cell, TargetState, Idle}
 use Rattle.redodb_text.specs.Texts.{after_space, digest_word}
 use Rattle.redodb_history.specs.HistoryFaults.{IsCutAtSpace}
 use Rattle.redodb_live.specs.Answers.{holder_word, stage_word}
@@ -65,9 +65,7 @@ module _ (cell : Cell) (grants : ℕ) (holder : Option ℕ) where
     where
       some_stage : (state : TargetState) → 0 < length (stage_word state)
       some_stage Idle = omega arith
-      some_stage (Building s) = omega arith
-      some_stage Built = omega arith
-      some_stage Failed = omega arith
+      some_stage state = omega arith
 
   pub plain_without : (rest : Text) → rest ≡ joined (after_file (is_plain cell grants holder))
       → length rest ≡ 0 → is_plain cell grants holder ≡ true

@@ -149,10 +149,9 @@ one_word number now None false row = absurd (false≢true row)
 
 pub no_word : (number : ℕ) (now : Mark) (change : Option Mark) (created : Bool)
     → (created || is_some change) ≡ false → row_words number now change created ≡ []
-no_word number now (Some mark) true none = absurd (true≢false none)
-no_word number now (Some mark) false none = absurd (true≢false none)
-no_word number now None true none = absurd (true≢false none)
 no_word number now None false none = refl
+no_word number now (Some mark) true none = absurd (true≢false none)
+no_word number now change created none = absurd (true≢false none)
 
 -- one more number
 pub numbers_more : (f : ℕ → Text) (n : ℕ)

@@ -1,13 +1,13 @@
 -- Each of the states that were worked out by hand is one over its names.
-use Rattle.std.proofs.Common.{◌≡◌, ℕ, ◌<◌, ◌^◌, Bool, true, false, ◌&&◌, List, [], ◌∷◌, Option, Some, None, IfSome, refl, ap, ◌∙◌, subst, arith, if◌then◌else◌}
+use Rattle.std.proofs.Common.{◌≡◌, ℕ, ◌<◌, ◌^◌, Bool, true, false, ◌&&◌, List, [], ◌∷◌, Option, Some, None, IfSome, map, refl, ap, ◌∙◌, subst, arith, if◌then◌else◌}
 use Rattle.std.specs.Prelude.{bytes_eq, not, codes, Contains}
-use Rattle.std.specs.List.{AllByRecursion, IsDistinct}
+use Rattle.std.specs.List.{AllByRecursion, IsDistinct, list_all}
 use Rattle.std.specs.Cmp.Lexicographic.{bytes_decides}
-use Rattle.std.proofs.lemmas.List.{get_or_default}
+use Rattle.std.proofs.lemmas.Map.Views.{Contains-from_any}
 use Rattle.redodb_names.specs.Names.{is_name, has}
 use Rattle.redodb_names.specs.Support.Names.{AreNames}
 use Rattle.redodb_names.proofs.NameLists.{AreNames-none}
-use Rattle.redodb_model.specs.Names.{Text, text_at}
+use Rattle.redodb_model.specs.Names.{Text}
 use Rattle.redodb_model.specs.State.{Rows, Building, empty, no_rows}
 use Rattle.redodb_commands.specs.Stamp.{is_stamp}
 use Rattle.redodb_text.proofs.Steps.{both, neither}
@@ -39,6 +39,13 @@ distinct [] e = tt
 distinct (n ∷ names) e =
     let parts = both (not (has names n)) (are_apart names) e in
     (none_is n names parts.0, distinct names parts.1)
+
+among : (names ns : List Text) → list_all (has names) ns ≡ true
+    → AllByRecursion (Contains names) ns
+among names [] e = tt
+among names (n ∷ ns) e =
+    let parts = both (has names n) (list_all (has names) ns) e in
+    (Contains-from_any (λ x y. (bytes_decides x y).0) n names parts.0, among names ns parts.1)
 
 -- what is known of some names is known of each
 
@@ -81,7 +88,7 @@ is_none names name text has none = by (bytes_eq name text) refl
     by false e = refl
 
 unknown_is : (names : List Text) (all : List Known)
-    → AllByRecursion (λ known. Contains names known.name) all → (text : Text)
+    → AllByRecursion (Contains names) (map (λ (known : Known). known.name) all) → (text : Text)
     → (Contains names text → ⊥) → known_of all text ≡ unknown text
 unknown_is names [] are text none = refl
 unknown_is names (known ∷ all) are text none =
@@ -90,7 +97,7 @@ unknown_is names (known ∷ all) are text none =
     ∙ unknown_is names all are.1 text none
 
 no_rows_on : (names : List Text) (all : List RowsOn)
-    → AllByRecursion (λ rows. Contains names rows.name) all → (text : Text)
+    → AllByRecursion (Contains names) (map (λ (rows : RowsOn). rows.name) all) → (text : Text)
     → (Contains names text → ⊥)
     → rows_on all text ≡ record { name = text; change = None; created = false }
 no_rows_on names [] are text none = refl
@@ -127,12 +134,13 @@ no_rows_are names = record {
 }
 
 state_is : (names : List Text) (all : List Known) (rows : Rows Text) → AreNames names
-    → AllByRecursion (λ known. Contains names known.name) all → AllByRecursion IsForm all
-    → AreRowsOn names rows → IsStateOver names (state_with all rows)
-state_is names all rows are among forms on = record {
+    → list_all (has names) (map (λ (known : Known). known.name) all) ≡ true
+    → AllByRecursion IsForm all → AreRowsOn names rows → IsStateOver names (state_with all rows)
+state_is names all rows are known forms on = record {
   are_names = are;
   others = λ text none.
-      let is = unknown_is names all among text none in
+      let is = unknown_is names all (among names (map (λ (k : Known). k.name) all) known) text none
+      in
       record {
         unknown = record {
           cell = ap (λ (k : Known). k.cell) is;
@@ -157,25 +165,31 @@ state_is names all rows are among forms on = record {
 
 -- rows of one target
 
-rows_are : (names : List Text) (t : Text) (all : List RowsOn) → Contains names t
-    → AllByRecursion (λ rows. Contains names rows.name) all
+rows_are : (names : List Text) (t : Text) (all : List RowsOn)
+    → list_all (has names) (t ∷ map (λ (rows : RowsOn). rows.name) all) ≡ true
     → AllByRecursion (λ (rows : RowsOn). IfSome rows.change HasMarkForm) all
     → AreRowsOn names (rows_of t all)
-rows_are names t all has among forms = record {
+rows_are names t all known forms = record {
   marks = λ u n. mark_at n (bytes_eq t u);
   change_of = λ u none n.
-      ap (λ b. if b then (rows_on all n).change else None) (is_none names t u has none);
+      ap (λ b. if b then (rows_on all n).change else None) (is_none names t u own none);
   created_of = λ u none n.
-      ap (λ b. if b then (rows_on all n).created else false) (is_none names t u has none);
-  always_of = λ u none. is_none names t u has none;
+      ap (λ b. if b then (rows_on all n).created else false) (is_none names t u own none);
+  always_of = λ u none. is_none names t u own none;
   change_on = λ n none u.
-      change_at n (ap (λ (r : RowsOn). r.change) (no_rows_on names all among n none))
+      change_at n (ap (λ (r : RowsOn). r.change) (no_rows_on names all others n none))
       (bytes_eq t u);
   created_on = λ n none u.
-      created_at n (ap (λ (r : RowsOn). r.created) (no_rows_on names all among n none))
+      created_at n (ap (λ (r : RowsOn). r.created) (no_rows_on names all others n none))
       (bytes_eq t u);
 }
   where
+    own : Contains names t
+    own = (among names (t ∷ map (λ (rows : RowsOn). rows.name) all) known).0
+
+    others : AllByRecursion (Contains names) (map (λ (rows : RowsOn). rows.name) all)
+    others = (among names (t ∷ map (λ (rows : RowsOn). rows.name) all) known).1
+
     mark_at : (n : Text) (b : Bool)
         → IfSome (if b then (rows_on all n).change else None) HasMarkForm
     mark_at n true =
@@ -194,14 +208,11 @@ rows_are names t all has among forms = record {
 
 -- the states
 
-first_one : (n : Text) (names : List Text) → Contains (n ∷ names) n
-first_one n names = (0, omega arith, refl)
-
 one_name : (n : Text) → is_name n ≡ true → AreNames (n ∷ [])
 one_name n is = record { few = omega arith; distinct = distinct (n ∷ []) refl; each = (is, tt) }
 
 pub nothing_is : IsStateOver [] empty
-nothing_is = state_is [] [] no_rows AreNames-none tt tt (no_rows_are [])
+nothing_is = state_is [] [] no_rows AreNames-none refl tt (no_rows_are [])
 
 with_file_has_form : (name : Text) (file : Option Text)
     → IfSome file (λ stamp. is_stamp stamp ≡ true) → IsForm (worked.with_file name file)
@@ -218,13 +229,12 @@ source_is =
     let name = codes "a.c" in
     let file : Option Text = Some (codes "10") in
     state_is (name ∷ []) (worked.with_file name file ∷ []) no_rows (one_name name refl)
-    (first_one name [], tt) (with_file_has_form name file refl, tt) (no_rows_are (name ∷ []))
+    refl (with_file_has_form name file refl, tt) (no_rows_are (name ∷ []))
 
 pub building_is : IsStateOver (codes "T" ∷ []) worked.building
 unfolding is_name is_stamp
 building_is =
-    state_is (codes "T" ∷ []) worked.known_of_building no_rows (one_name (codes "T") refl)
-    (first_one (codes "T") [], tt) (
+    state_is (codes "T" ∷ []) worked.known_of_building no_rows (one_name (codes "T") refl) refl (
       (
         record { file = refl; builds = omega arith; done = tt; digest = tt },
         omega arith,
@@ -246,35 +256,11 @@ names_are = record {
   each = (refl, (refl, (refl, (refl, (refl, (refl, (refl, (refl, tt))))))));
 }
 
-at : (k : ℕ) (name : Text) → k < 8 → text_at worked.names_with_rows k ≡ name
-    → Contains worked.names_with_rows name
-at k name below is =
-    let other = get_or_default worked.names_with_rows k name [] below in
-    (k, below, other ∙ is)
-
 pub with_rows_is : IsStateOver worked.names_with_rows worked.with_rows
 unfolding is_stamp
 with_rows_is =
     state_is worked.names_with_rows worked.cells_with_rows
-    (rows_of (codes "T") worked.rows_of_each_mark) names_are (
-      at 0 (codes "T") (omega arith) refl,
-      (
-        at 1 (codes "c") (omega arith) refl,
-        (
-          at 2 (codes "d") (omega arith) refl,
-          (
-            at 3 (codes "b") (omega arith) refl,
-            (
-              at 4 (codes "p") (omega arith) refl,
-              (
-                at 5 (codes "a") (omega arith) refl,
-                (at 6 (codes "n") (omega arith) refl, (at 7 (codes "y") (omega arith) refl, tt)),
-              ),
-            ),
-          ),
-        ),
-      ),
-    ) (
+    (rows_of (codes "T") worked.rows_of_each_mark) names_are refl (
       built,
       (
         file (codes "c") (codes "10") refl,
@@ -293,26 +279,7 @@ with_rows_is =
         ),
       ),
     )
-    (rows_are worked.names_with_rows (codes "T") worked.rows_of_each_mark
-    (at 0 (codes "T") (omega arith) refl) (
-      at 1 (codes "c") (omega arith) refl,
-      (
-        at 2 (codes "d") (omega arith) refl,
-        (
-          at 3 (codes "b") (omega arith) refl,
-          (
-            at 4 (codes "p") (omega arith) refl,
-            (
-              at 5 (codes "a") (omega arith) refl,
-              (
-                at 6 (codes "n") (omega arith) refl,
-                (at 7 (codes "y") (omega arith) refl, tt),
-              ),
-            ),
-          ),
-        ),
-      ),
-    )
+    (rows_are worked.names_with_rows (codes "T") worked.rows_of_each_mark refl
     (refl, (sha1_is_digest (codes "abc"), (omega arith, (tt, (tt, (refl, (tt, tt))))))))
   where
     file : (name stamp : Text) → is_stamp stamp ≡ true
