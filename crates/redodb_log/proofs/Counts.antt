@@ -2,7 +2,7 @@
 use Rattle.std.proofs.Common.{◌≡◌, ℕ, ◌+◌, ◌≤◌, Bool, true, false, cond, List, [], ◌∷◌, length, Option, Some, None, subst, arith}
 use Rattle.redodb_model.specs.Names.{Naming, Text, texts, put}
 use Rattle.redodb_model.specs.State.{Cell, Records, State, empty}
-use Rattle.redodb_model.specs.Command.{Command, File, Gone, Lock, Unlock, Start, IfChange, IfCreate, Always, Stamp, Done, Failed, Ood, Targets, Sources}
+use Rattle.redodb_model.specs.Command.{Command, File, Gone, Start, Stamp, Done, Failed}
 use Rattle.redodb_model.specs.Reply.{Refusal}
 use Rattle.redodb_model.specs.Step.{effect_of, holds_target, unless_refused, verdict_of, after}
 use Rattle.redodb_model.specs.History.{Line, left_by}
@@ -29,18 +29,11 @@ module _ {N : Type 0} (naming : Naming N) (count : ℕ) (r : Records N) (few : A
     few_effect : (s : ℕ) (command : Command N) → AreFewBuilds (count + 1) (effect_of naming r s command)
     few_effect s (File n stamp) = few_put n _ (few_later n)
     few_effect s (Gone n) = few_put n _ (few_later n)
-    few_effect s (Lock t) = few_later
-    few_effect s (Unlock t) = few_later
     few_effect s (Start t) = few_put t _ (few_later t)
-    few_effect s (IfChange t ns) = few_later
-    few_effect s (IfCreate t ns) = few_later
-    few_effect s (Always t) = few_later
     few_effect s (Stamp t content) = few_put t _ (few_later t)
     few_effect s (Done t stamp) = few_put t _ (let h = few t in omega arith)
     few_effect s (Failed t) = few_put t _ (few_later t)
-    few_effect s Ood = few_later
-    few_effect s Targets = few_later
-    few_effect s Sources = few_later
+    few_effect s command = few_later
 
     few_unless : (verdict : Option (Refusal N)) (s : ℕ) (command : Command N)
         → AreFewBuilds (count + 1) (unless_refused verdict r (effect_of naming r s command))

@@ -18,11 +18,11 @@ use Rattle.redodb_log.specs.Logs.{AreLogged}
 use Rattle.redodb_log.specs.Restores.{IsLeftBy}
 use Rattle.redodb_log.specs.Support.Steps.{CanFollow}
 
-abbrev own_names : Line Text → List Text
+abbrev pub own_names : Line Text → List Text
 own_names line = names_in line.command
 
 -- the names of more lines come after those before
-names_after-append : (lines more : List (Line Text))
+pub names_after-append : (lines more : List (Line Text))
     → names_after (lines ++ more) ≡ with_names (names_after lines) (flat_map own_names more)
 names_after-append lines more = ap (with_names []) (flat_map-append own_names lines more)
     ∙ with_names-append [] (flat_map own_names lines) (flat_map own_names more)
@@ -39,8 +39,9 @@ pub all_parts : {X : Type 0} (P : X → Type 0) (xs ys : List X) → AllByRecurs
 all_parts P [] ys h = (tt, h)
 all_parts P (x ∷ xs) ys h = let rest = all_parts P xs ys h.1 in ((h.0, rest.0), rest.1)
 
-legal_parts : (st : State Text) (lines more : List (Line Text)) → LegalFrom texts st (lines ++ more)
-    → LegalFrom texts st lines × LegalFrom texts (left_by texts st lines) more
+pub legal_parts : (st : State Text) (lines more : List (Line Text))
+    → LegalFrom texts st (lines ++ more) → LegalFrom texts st lines
+    × LegalFrom texts (left_by texts st lines) more
 legal_parts st [] more h = (tt, h)
 legal_parts st (line ∷ lines) more h =
     let rest = legal_parts (after texts st line.session line.command) lines more h.1 in

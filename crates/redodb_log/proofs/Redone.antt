@@ -82,7 +82,8 @@ module _ (old new : LiveState) (left own output logged logged_after : Text) (ses
         ∙ ap (λ (t : Text). t ++ rest) (sym is.appended.writes))
 
     pub next_or_none : (found : Option (Bor Text))
-        → MatchOption found ((rest : Text) → left ≢ output ++ rest) (λ rest. left ≡ output ++ rest.now)
-        → MatchOption found (NothingFollows old left) (λ rest. DoesNext old new left rest.now)
+        → MatchOption found ((rest : Text) → left ≢ output ++ rest) (λ rest. left
+        ≡ output ++ rest.now) → MatchOption found (NothingFollows old left) (λ rest. DoesNext old
+        new left rest.now)
     next_or_none None h = does_none h
     next_or_none (Some rest) h = does_next rest.now h

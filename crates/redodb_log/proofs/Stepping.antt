@@ -23,7 +23,7 @@ use Rattle.redodb_log.specs.Support.Steps.{BeginsAfter, NothingFollows, DoesNext
 use Rattle.redodb_log.proofs.Grown.{logged_more, can_follow}
 
 -- a line's text ends with a line feed
-text_has_lf : (line : Line Text) (rest : Text) → Contains (line_text_of line ++ rest) 10
+pub text_has_lf : (line : Line Text) (rest : Text) → Contains (line_text_of line ++ rest) 10
 text_has_lf line rest =
     let own = own_text_of line in
     subst (λ (t : Text). Contains t 10) (sym (append_assoc own (10 ∷ []) rest)) (has_lf own rest 10)
@@ -241,7 +241,5 @@ restored_to past log left first lines live count is begins counted =
 
 -- a fault of room says nothing of bytes
 pub room_within : (size : ℕ) (fault : RestoreFault) → IsOfRoom fault → IsWithin size fault
-room_within size Memory room = tt
-room_within size Worn room = tt
-room_within size (NoState number) room = tt
 room_within size (Differs number count bytes) room = absurd room
+room_within size fault room = tt

@@ -118,10 +118,7 @@ impl Again {
         };
         self.output.clear();
         self.logged.clear();
-        match self
-            .live
-            .answer(alloc, session, command, &mut self.output, &mut self.logged)
-        {
+        match self.live.answer(alloc, session, command, &mut self.output, &mut self.logged) {
             Ok(()) => Ok(left.strip_prefix(self.output.as_slice())),
             Err(Unanswered::Fault(_)) => Ok(None),
             Err(Unanswered::Memory) => Err(RestoreFault::Memory),

@@ -37,15 +37,7 @@ operation_of (kind, (size, bytes)) =
 -- an operation is that of its note
 pub operation_of-note_of : (operation : Operation) → operation_of (note_of operation) ≡ operation
 operation_of-note_of (Read bytes) = refl
-operation_of-note_of (Append bytes) = refl
-operation_of-note_of (Cut size) = refl
-operation_of-note_of Sync = refl
-operation_of-note_of Revert = refl
-operation_of-note_of Copy = refl
-operation_of-note_of (Write bytes) = refl
-operation_of-note_of LogFailed = refl
-operation_of-note_of OutputFailed = refl
-operation_of-note_of (Replace bytes) = refl
+operation_of-note_of operation = refl
 
 -- the logic stores an operation as its note
 abbrev pub operation_code : Coded Operation
