@@ -27,12 +27,12 @@ use Rattle.redodb_model.proofs.WhyByName.{why_below, tells_why_by_name, deps_by_
 use Rattle.redodb_model.proofs.UsersByName.{users_by_name, unused_by_name, unused_without_number}
 use Rattle.redodb_database.specs.Meaning.{why_of}
 use Rattle.redodb_database.specs.declared.why.Why.{Why}
+use Rattle.redodb_history.proofs.KnownNames.{all_members}
 use Rattle.redodb_live.specs.Answers.{Standing}
 use Rattle.redodb_live.specs.Support.Asked.{why_at}
 use Rattle.redodb_live.specs.Support.Ordered.{AreSortedAgain}
 use Rattle.redodb_live.specs.Support.Within.{IsStateWithin}
 use Rattle.redodb_live.proofs.Answering.{renaming, number_is_strict, orders, alike}
-use Rattle.redodb_live.proofs.Lines.{all_of}
 use Rattle.redodb_live.proofs.Reordered.{listed_again}
 
 -- the name of a list's last number is the end of the names
@@ -120,9 +120,9 @@ module _ (names : List Text) (are : AreNames names) (st : State ℕ)
     pub deps_below : (n : ℕ) (deps : model.Deps ℕ) → AreDeps (by_text names) st.records n deps
         → AreDepsBelow (length names) deps
     deps_below n deps are_deps = record {
-      change = all_of (λ m. m < length names) deps.change
+      change = all_members (λ m. m < length names) deps.change
           (λ m there. (within.records.changes n m ((are_deps.change.1 m).0 there)).1);
-      created = all_of (λ m. m < length names) deps.created
+      created = all_members (λ m. m < length names) deps.created
           (λ m there. (within.records.createds n m ((are_deps.created.1 m).0 there)).1);
     }
 
@@ -153,9 +153,9 @@ module _ (names : List Text) (are : AreNames names) (st : State ℕ)
     pub users_below : (n : ℕ) (users : users.Users ℕ) → AreUsers (by_text names) st.records n users
         → AreUsersBelow (length names) users
     users_below n users are_users = record {
-      change = all_of (λ m. m < length names) users.change
+      change = all_members (λ m. m < length names) users.change
           (λ t there. (within.records.changes t n ((are_users.change.1 t).0 there)).0);
-      created = all_of (λ m. m < length names) users.created
+      created = all_members (λ m. m < length names) users.created
           (λ t there. (within.records.createds t n ((are_users.created.1 t).0 there)).0);
     }
 

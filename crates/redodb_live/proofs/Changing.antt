@@ -4,7 +4,7 @@ use Rattle.std.specs.declared.cmp.Ordering.{Ordering}
 use Rattle.redodb_model.specs.Names.{text_at}
 use Rattle.redodb_names.specs.Support.Names.{AreNames}
 use Rattle.redodb_model.specs.State.{Records, Cell}
-use Rattle.redodb_model.specs.Command.{Command, File, Gone, Lock, Unlock, Start, IfChange, IfCreate, Always, Stamp, Done, Failed, Ood, Targets, Sources}
+use Rattle.redodb_model.specs.Command.{Command, File, Gone, Ood, Targets, Sources}
 use Rattle.redodb_model.specs.Reply.{Reply, Okay, Granted, Busy, Stale, Stamped, Refused, lets_through}
 use Rattle.redodb_model.specs.Reply as replies
 use Rattle.redodb_model.specs.Changes.{changes, is_stamp_of}
@@ -17,27 +17,16 @@ use Rattle.redodb_live.proofs.Answering.{renaming}
 named_lets : (name : ℕ → List ℕ) (reply : Reply ℕ)
     → lets_through (named_reply name reply) ≡ lets_through reply
 named_lets name Okay = refl
-named_lets name (Granted g) = refl
-named_lets name (Busy g) = refl
-named_lets name (Stale ns) = refl
-named_lets name (Stamped digest) = refl
-named_lets name (replies.Ood ns) = refl
-named_lets name (replies.Targets ns) = refl
-named_lets name (replies.Sources ns) = refl
-named_lets name (Refused refusal) = refl
+named_lets name reply = refl
 
 module _ (order : ℕ → ℕ → Ordering) where
   sorted_lets : (reply now : Reply ℕ) → IsSortedReply order reply now
       → lets_through now ≡ lets_through reply
-  sorted_lets Okay now is = ap lets_through is
-  sorted_lets (Granted g) now is = ap lets_through is
-  sorted_lets (Busy g) now is = ap lets_through is
   sorted_lets (Stale ns) now (ms, again, is) = ap lets_through is
-  sorted_lets (Stamped digest) now is = ap lets_through is
   sorted_lets (replies.Ood ns) now (ms, again, is) = ap lets_through is
   sorted_lets (replies.Targets ns) now (ms, again, is) = ap lets_through is
   sorted_lets (replies.Sources ns) now (ms, again, is) = ap lets_through is
-  sorted_lets (Refused refusal) now is = ap lets_through is
+  sorted_lets reply now is = ap lets_through is
 
   module _ (names : List (List ℕ)) (are : AreNames names) (r : Records ℕ) (reply now : Reply ℕ)
       (sorted : IsSortedReply order reply now)
@@ -54,15 +43,7 @@ module _ (order : ℕ → ℕ → Ordering) where
           (cell_at_name (renaming names are) r n below.0)
       changes_by_name (Gone n) below =
           ap (λ (c : Cell). is_some c.file) (cell_at_name (renaming names are) r n below.0)
-      changes_by_name (Lock t) below = lets
-      changes_by_name (Unlock t) below = lets
-      changes_by_name (Start t) below = lets
-      changes_by_name (IfChange t ns) below = lets
-      changes_by_name (IfCreate t ns) below = lets
-      changes_by_name (Always t) below = lets
-      changes_by_name (Stamp t content) below = lets
-      changes_by_name (Done t stamp) below = lets
-      changes_by_name (Failed t) below = lets
       changes_by_name Ood below = refl
       changes_by_name Targets below = refl
       changes_by_name Sources below = refl
+      changes_by_name command below = lets

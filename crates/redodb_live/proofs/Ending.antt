@@ -1,5 +1,5 @@
 -- The state and the answer after a session's end.
-use Rattle.std.proofs.Common.{◌≡◌, ◌≢◌, ◌↔◌, ◌+◌, ◌^◌, ◌<◌, ℕ, List, ◌++◌, Option, Some, None, is_some, refl, sym, ap, ◌∙◌, subst, map, length, arith}
+use Rattle.std.proofs.Common.{◌≡◌, ◌≢◌, ◌↔◌, ◌+◌, ◌^◌, ◌<◌, ℕ, List, ◌++◌, inl, inr, Option, Some, None, is_some, refl, sym, ap, ◌∙◌, subst, map, length, arith}
 use Rattle.std.specs.Prelude.{nat_eq}
 use Rattle.std.specs.List.{AllByRecursion, Contains, IsDistinct, flat_map}
 use Rattle.std.specs.List.Sorted.{IsPermutation, IsStrictlyIncreasing}
@@ -28,17 +28,21 @@ use Rattle.redodb_commands.specs.declared.reply.Line.{Line}
 use Rattle.redodb_database.specs.Tables.{Tables, state_of, tables_count, calls_of}
 use Rattle.redodb_history.specs.Histories.{line_text_of}
 use Rattle.redodb_history.specs.Recorded.{AreLinesBelow}
+use Rattle.redodb_history.proofs.KnownNames.{all_members}
 use Rattle.redodb_live.specs.Support.Ended.{end_text}
 use Rattle.redodb_live.specs.Support.ClosingLines.{AreClosing, TakesNoRoom}
 use Rattle.redodb_live.specs.Support.Kept.{IsKept}
+use Rattle.redodb_live.specs.Support.LiveState.{LiveState}
 use Rattle.redodb_live.specs.Support.Ordered.{AreSortedAgain}
 use Rattle.redodb_live.specs.Support.Appended.{EndsSession}
-use Rattle.redodb_live.specs.Support.AnswerFaults.{WouldEnd}
+use Rattle.redodb_live.specs.Support.AnswerFaults.{IsUnendedFor, WouldEnd}
+use Rattle.redodb_live.specs.declared.fault.AnswerFault.{AnswerFault}
+use Rattle.redodb_live.proofs.Obeying.{IsUnwrittenFor}
 use Rattle.redodb_live.specs.Support.Within.{IsStateWithin}
 use Rattle.redodb_live.proofs.Answering.{renaming, number_is_strict, orders, alike}
 use Rattle.redodb_live.proofs.Closing.{all_closing, closing_by_name, few_lines, kept_then, left_texts, legal_numbers, lines_below}
 use Rattle.redodb_live.proofs.Keeping.{taken_below}
-use Rattle.redodb_live.proofs.Lines.{all_from_map, all_of}
+use Rattle.redodb_live.proofs.Lines.{all_from_map}
 use Rattle.redodb_live.proofs.Reordered.{ascending_once, listed_again}
 
 pub text_is_strict : (names : List Text) (n : ℕ) → (by_text names).order n n ≢ Less
@@ -49,10 +53,19 @@ numbered_by : (f : ℕ → Option ℕ) (s : ℕ) (o : Option ℕ) → value_at N
 numbered_by f s None e = absurd (cc)
 numbered_by f s (Some k) e = (k, refl)
 
+-- why the answer to a session's end wasn't appended
+pub unended : (live : LiveState) (session most : ℕ) (why : AnswerFault) (text : Text)
+    → WouldEnd live session (length text) → IsUnwrittenFor text most why
+    → IsUnendedFor live session most why
+unended live session most why text would (inl e) =
+    subst (IsUnendedFor live session most) (sym e) refl
+unended live session most why text would (inr (e, more)) =
+    subst (IsUnendedFor live session most) (sym e) (more, would)
+
 -- the same numbers in another order are below the same count
 pub sorted_below : (n : ℕ) (ns ms : List ℕ) → IsPermutation ns ms → AllBelow n ns → AllBelow n ms
 sorted_below n ns ms moved below =
-    all_of (λ t. t < n) ms (λ t there. All-contains (λ k. k < n) ns t
+    all_members (λ t. t < n) ms (λ t there. All-contains (λ k. k < n) ns t
     (All-from_recursion (λ k. k < n) ns below)
     (Contains-permutation ms ns t (IsPermutation-sym ns ms moved) there))
 
@@ -91,7 +104,7 @@ module _ (names : List Text) (are : AreNames names) (st : State ℕ)
 
     pub held_below : (ts : List ℕ) → AreHeld (by_text names) s st ts → AllBelow (length names) ts
     held_below ts held =
-        all_of (λ t. t < length names) ts (λ t there. mine_below t ((held.1 t).0 there))
+        all_members (λ t. t < length names) ts (λ t there. mine_below t ((held.1 t).0 there))
 
     pub held_once : (ts : List ℕ) → AreHeld (by_text names) s st ts → IsDistinct nat_eq ts
     held_once ts held = ascending_once (by_text names).order (text_is_strict names) ts held.0
@@ -225,7 +238,8 @@ module _ (names : List Text) (are : AreNames names) (tables : Tables)
             ++ (flat_map line_text_of (map (line_at names) lines) ++ end_text session)
             → logged_after ≡ logged ++ flat_map line_text_of (map (line_at names) lines)
             → EndsSession (record { names = names; tables = tables })
-            (record { names = names; tables = next }) session output output_after logged logged_after
+            (record { names = names; tables = next }) session output output_after logged
+            logged_after
         ends output output_after logged logged_after writes logs =
             record {
               lines = map (line_at names) lines;

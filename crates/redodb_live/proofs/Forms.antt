@@ -16,7 +16,7 @@ use Rattle.redodb_model.specs.Users.{AreUsers}
 use Rattle.redodb_model.specs.Support.Users.{named_users}
 use Rattle.redodb_model.specs.Renaming.{AllBelow}
 use Rattle.redodb_model.specs.State.{State}
-use Rattle.redodb_model.specs.Why.{Reason, Building, Failed, Edited, Always, Appeared, Changed}
+use Rattle.redodb_model.specs.Why.{Reason, Appeared, Changed}
 use Rattle.redodb_model.specs.Support.Why.{IsReasonBelow, IsWhyBelow, named_reason}
 use Rattle.redodb_database.specs.Meaning.{why_of}
 use Rattle.redodb_database.specs.declared.why.Why.{Why}
@@ -44,12 +44,9 @@ module _ (names : List Text) (are : AreNames names) where
 
   reason_form : (reason : Reason ℕ) → IsReasonBelow (length names) reason
       → HasReasonForm (named_reason (text_at names) reason)
-  reason_form Building below = tt
-  reason_form Failed below = tt
-  reason_form Edited below = tt
-  reason_form Always below = tt
   reason_form (Appeared n) below = is_name_at names n are.each below
   reason_form (Changed n) below = is_name_at names n are.each below
+  reason_form reason below = tt
 
   pub why_form : (found : Option Why)
       → IfSome found (λ why. IsWhyBelow (length names) (why_of why))

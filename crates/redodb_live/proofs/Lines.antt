@@ -12,6 +12,7 @@ use Rattle.redodb_model.specs.History.{Line, LegalFrom, left_by}
 use Rattle.redodb_model.specs.Step.{Answers, after}
 use Rattle.redodb_model.proofs.Members.{contains_first, contains_later}
 use Rattle.redodb_model.proofs.OneMore.{left_by-append}
+use Rattle.redodb_history.proofs.KnownNames.{all_members}
 
 pub all_both : {X : Type 0} (P : X → Type 0) (xs ys : List X) → AllByRecursion P xs
     → AllByRecursion P ys → AllByRecursion P (xs ++ ys)
@@ -23,12 +24,6 @@ pub all_from_map : {X Y : Type 0} (f : X → Y) (P : Y → Type 0) (xs : List X)
 all_from_map f P [] h = tt
 all_from_map f P (x ∷ xs) h = (h.0, all_from_map f P xs h.1)
 
-pub all_of : {X : Type 0} (P : X → Type 0) (xs : List X) → ((x : X) → Contains xs x → P x)
-    → AllByRecursion P xs
-all_of P [] each = tt
-all_of P (x ∷ xs) each =
-    (each x (contains_first x xs), all_of P xs (λ y there. each y (contains_later x xs y there)))
-
 -- numbers of which each differs from all others
 pub distinct_both : (us ts : List ℕ) → IsDistinct nat_eq us → IsDistinct nat_eq ts
     → ((u : ℕ) → Contains us u → Contains ts u → ⊥) → IsDistinct nat_eq (us ++ ts)
@@ -36,7 +31,7 @@ distinct_both [] ts once other apart = other
 distinct_both (u ∷ us) ts once other apart =
     IsDistinct-cons nat_eq u (us ++ ts)
     (all_both (λ t. nat_eq u t ≡ false) us ts (IsDistinct-head nat_eq u us once)
-    (all_of (λ t. nat_eq u t ≡ false) ts (λ t there.
+    (all_members (λ t. nat_eq u t ≡ false) ts (λ t there.
     ne_eqb u t (λ same. apart u (contains_first u us) (subst (Contains ts) (sym same) there)))))
     (distinct_both us ts (IsDistinct-tail nat_eq u us once) other
     (λ t here there. apart t (contains_later u us t here) there))

@@ -3,7 +3,7 @@ use Rattle.std.proofs.Common.{◌+◌, ◌≤◌, ℕ, Bool, true, false, if◌t
 use Rattle.std.specs.List.{flat_map}
 use Rattle.redodb_names.specs.Names.{has, with_name}
 use Rattle.redodb_model.specs.Names.{Text}
-use Rattle.redodb_model.specs.Command.{Command, names_in, File, Gone, Lock, Unlock, Start, IfChange, IfCreate, Always, Stamp, Done, Failed, Ood, Targets, Sources}
+use Rattle.redodb_model.specs.Command.{Command, names_in, IfChange, IfCreate}
 use Rattle.redodb_text.specs.Grammar.{HasForm, AddsNames, with_names}
 
 one_more : (names : List Text) (name : Text) → length (with_name names name) ≤ length names + 1
@@ -22,20 +22,9 @@ so_many_more names (name ∷ more) =
 
 few_in : (command : Command Text) → HasForm command
     → length (flat_map names_in (command ∷ [])) ≤ 65
-few_in (File n stamp) form = omega arith
-few_in (Gone n) form = omega arith
-few_in (Lock t) form = omega arith
-few_in (Unlock t) form = omega arith
-few_in (Start t) form = omega arith
 few_in (IfChange t ns) form = omega (arith, form.1.few, length-append ns [])
 few_in (IfCreate t ns) form = omega (arith, form.1.few, length-append ns [])
-few_in (Always t) form = omega arith
-few_in (Stamp t content) form = omega arith
-few_in (Done t stamp) form = omega arith
-few_in (Failed t) form = omega arith
-few_in Ood form = omega arith
-few_in Targets form = omega arith
-few_in Sources form = omega arith
+few_in command form = omega arith
 
 pub few_new : {most : ℕ} (names after : List Text) (command : Command Text) → HasForm command
     → AddsNames most names (command ∷ []) after → length after ≤ length names + 65

@@ -39,7 +39,8 @@ module _ (names : List Text) (are : AreNames names) (tables : Tables)
     (kept : IsKept names (state_of tables) (calls_of tables)) (session : ℕ) (command : Command ℕ)
     (below : IsBelow (length names) command) (reply_line : Line) (reply : Reply)
     (text : Text)
-    (is : IsReplyLine (record { names = names; tables = tables }) session command reply_line reply text)
+    (is : IsReplyLine (record { names = names; tables = tables }) session command reply_line reply
+    text)
   where
     asked_below : IsBelow (length names) (command_of reply_line.command)
     asked_below = subst (IsBelow (length names)) (sym is.command_is) below
@@ -112,8 +113,8 @@ module _ (names : List Text) (are : AreNames names) (tables : Tables)
             (reply_of reply)
             → output_after ≡ output ++ text
             → logged_after ≡ logged ++ cond b text []
-            → IsObeyed old (record { names = names; tables = next }) session command output output_after
-            logged logged_after
+            → IsObeyed old (record { names = names; tables = next }) session command output
+            output_after logged logged_after
         obeyed old output output_after logged logged_after b old_names old_state old_calls changing
             writes logs =
             let line = line_at names reply_line in
@@ -167,9 +168,9 @@ module _ (old mid : LiveState) (names : mid.names ≡ old.names) (same : IsSameD
   obeyed_before new session asking command asked output output_after logged logged_after session_is
       command_is obeys =
       let line = obeys.line in
-      subst (λ (s : ℕ). IsObeyed old new s command output output_after logged logged_after) session_is
-      (subst (λ (k : Command ℕ). IsObeyed old new asking k output output_after logged logged_after)
-      command_is record {
+      subst (λ (s : ℕ). IsObeyed old new s command output output_after logged logged_after)
+      session_is (subst (λ (k : Command ℕ). IsObeyed old new asking k output output_after logged
+      logged_after) command_is record {
         line = line;
         session_is = obeys.session_is;
         command_is = obeys.command_is

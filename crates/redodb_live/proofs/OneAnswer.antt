@@ -5,7 +5,7 @@ use Rattle.std.specs.List.{AllByRecursion, list_all}
 use Rattle.std.specs.Str.{all_ascii_digits}
 use Rattle.std.proofs.lemmas.Fmt.{decimal_digit, decimal_injective}
 use Rattle.std.proofs.lemmas.List.{append_cancel_right}
-use Rattle.redodb_names.specs.Names.{is_name, AreAllNames}
+use Rattle.redodb_names.specs.Names.{is_name}
 use Rattle.redodb_model.specs.Names.{Text, is_visible}
 use Rattle.redodb_model.specs.State.{TargetState, Idle, Building, Built, Failed}
 use Rattle.redodb_model.specs.Deps as model
@@ -21,6 +21,7 @@ use Rattle.redodb_text.specs.declared.inquiries.Inquiry.TheVariants as inquiries
 use Rattle.redodb_text.proofs.Numerals.{printed_digits}
 use Rattle.redodb_text.proofs.ReplyWords.{grant_is_visible}
 use Rattle.redodb_text.proofs.Spaced.{IsVisible, name_is_visible, stamp_is_visible, stamp_is_no_dash, words_of-spaced}
+use Rattle.redodb_text.proofs.NameLists.{names_are_visible}
 use Rattle.redodb_history.proofs.CutOnce.{same_prefix}
 use Rattle.redodb_live.specs.Answers.{Answer, Cause, Rows, Uses, Standing, inquiry_of, answer_words, answer_line, reason_word, reason_name, why_words, counted, flag_word, deps_words, users_words, stage_words, holder_word}
 use Rattle.redodb_live.specs.Support.AnswerForms.{HasReasonForm, AreCountedNames, HasStateForm, HasAnswerForm}
@@ -61,11 +62,7 @@ reason_from word name =
 reason_back : (t : Text) (reason : Reason Text)
     → reason_from (reason_word reason) (reason_name t reason) ≡ reason
 reason_back t whys.Building = refl
-reason_back t whys.Failed = refl
-reason_back t whys.Edited = refl
-reason_back t whys.Always = refl
-reason_back t (whys.Appeared n) = refl
-reason_back t (whys.Changed n) = refl
+reason_back t reason = refl
 
 same_why : (t : Text) (found other : Option (whys.Why Text))
     → why_words t found ≡ why_words t other → found ≡ other
@@ -92,7 +89,7 @@ same_counted names others rest more le le' e =
     same_prefix names others rest more
     (same_number (length names) (length others) le le' (ap first_of e)) (ap (drop 1) e)
 
-same_flag : (a b : Bool) → flag_word a ≡ flag_word b → a ≡ b
+pub same_flag : (a b : Bool) → flag_word a ≡ flag_word b → a ≡ b
 same_flag true true e = refl
 same_flag false false e = refl
 same_flag true false e = ap (λ w. bytes_eq w (codes "1")) e
@@ -165,7 +162,7 @@ same_holder (Some s) (Some r) form other e = ap Some (same_session s r form othe
 abbrev IsFileForm : Option Text → Type 0
 IsFileForm file = IfSome file (λ stamp. is_stamp stamp ≡ true)
 
-stamp_is_not_none : (stamp : Text) → is_stamp stamp ≡ true → stamp ≡ codes "-" → ⊥
+pub stamp_is_not_none : (stamp : Text) → is_stamp stamp ≡ true → stamp ≡ codes "-" → ⊥
 stamp_is_not_none stamp is e =
     let no_dash : true ≡ false =
     sym (ap (λ word. bytes_eq word (codes "-")) e) ∙ stamp_is_no_dash stamp is in
@@ -212,10 +209,6 @@ joined_visible : (ws vs : List Text) → AllByRecursion IsVisible ws → AllByRe
 joined_visible [] vs all more = more
 joined_visible (w ∷ ws) vs all more = (all.0, joined_visible ws vs all.1 more)
 
-names_visible : (ns : List Text) → AreAllNames ns → AllByRecursion IsVisible ns
-names_visible [] all = tt
-names_visible (n ∷ ns) all = (name_is_visible n all.0, names_visible ns all.1)
-
 end_visible : (t : Text) (ns : List Text) → IsVisible t → AllByRecursion IsVisible ns
     → IsVisible (end_of t ns)
 end_visible t [] is all = is
@@ -223,25 +216,18 @@ end_visible t (n ∷ ns) is all = end_visible n ns all.0 all.1
 
 reason_word_visible : (reason : Reason Text) → IsVisible (reason_word reason)
 reason_word_visible whys.Building = refl
-reason_word_visible whys.Failed = refl
-reason_word_visible whys.Edited = refl
-reason_word_visible whys.Always = refl
-reason_word_visible (whys.Appeared n) = refl
-reason_word_visible (whys.Changed n) = refl
+reason_word_visible reason = refl
 
 reason_name_visible : (t : Text) (reason : Reason Text) → IsVisible t → HasReasonForm reason
     → IsVisible (reason_name t reason)
-reason_name_visible t whys.Building is form = is
-reason_name_visible t whys.Failed is form = is
-reason_name_visible t whys.Edited is form = is
-reason_name_visible t whys.Always is form = is
 reason_name_visible t (whys.Appeared n) is form = name_is_visible n form
 reason_name_visible t (whys.Changed n) is form = name_is_visible n form
+reason_name_visible t reason is form = is
 
 counted_visible : (names : List Text) → AreCountedNames names
     → AllByRecursion IsVisible (counted names)
 counted_visible names form =
-    (number_is_visible (length names) form.1, names_visible names form.0)
+    (number_is_visible (length names) form.1, names_are_visible names form.0)
 
 flag_visible : (flag : Bool) → IsVisible (flag_word flag)
 flag_visible true = refl
@@ -249,10 +235,8 @@ flag_visible false = refl
 
 stage_visible : (state : TargetState) → HasStateForm state
     → AllByRecursion IsVisible (stage_words state)
-stage_visible Idle form = (refl, tt)
 stage_visible (Building s) form = (refl, (number_is_visible (s + 1) (omega (arith, form)), tt))
-stage_visible Built form = (refl, tt)
-stage_visible Failed form = (refl, tt)
+stage_visible state form = (refl, tt)
 
 holder_visible : (holder : Option ℕ) → IfSome holder (λ s. s < 65536)
     → IsVisible (holder_word holder)
@@ -267,7 +251,7 @@ answer_visible : (name : Text) (answer : Answer) → IsVisible name → HasAnswe
     → AllByRecursion IsVisible (answer_words name answer)
 answer_visible name (Cause None) is form = (refl, tt)
 answer_visible name (Cause (Some why)) is form =
-    let names = names_visible why.names form.0 in (
+    let names = names_are_visible why.names form.0 in (
       reason_word_visible why.reason,
       (
         reason_name_visible (end_of name why.names) why.reason
@@ -291,11 +275,9 @@ answer_visible name (Standing state holder file) is form =
     (stage_visible state form.0)
     (refl, (holder_visible holder form.1, (refl, (file_visible file form.2, tt))))
 
-asked_visible : (inquiry : Inquiry) → IsVisible (inquiry_word inquiry)
+pub asked_visible : (inquiry : Inquiry) → IsVisible (inquiry_word inquiry)
 asked_visible inquiries.Why = refl
-asked_visible inquiries.Deps = refl
-asked_visible inquiries.Users = refl
-asked_visible inquiries.State = refl
+asked_visible inquiry = refl
 
 -- a line's words, after the session
 abbrev words_after : Text → Answer → List Text

@@ -14,7 +14,7 @@ use Rattle.std.proofs.lemmas.List.Sorted.{Contains-permutation, IsPermutation-sy
 use Rattle.std.proofs.lemmas.Map.Keys.{IsDistinct-from_apart, apart_from_distinct, IsDistinct-IsPermutation}
 use Rattle.redodb_model.specs.Names.{IsListed, Ascending, numbers}
 use Rattle.redodb_model.specs.State.{State, Records}
-use Rattle.redodb_model.specs.Command.{Command, File, Gone, Lock, Unlock, Start, IfChange, IfCreate, Always, Stamp, Done, Failed, Ood, Targets, Sources, asked_lock}
+use Rattle.redodb_model.specs.Command.{Command, File, Lock, IfChange, Ood, Targets, Sources, asked_lock}
 use Rattle.redodb_model.specs.Reply.{Refusal, Reply, Okay, Stale, Refused}
 use Rattle.redodb_model.specs.Step.{Answers, Tells, Replies, holds_target, lock_reply, stale_reply, verdict_of}
 use Rattle.redodb_model.specs.OutOfDate.{IsStale}
@@ -122,36 +122,12 @@ module _ (count : ℕ) (order other : ℕ → ℕ → Ordering) (are : AreOrders
       let (ms, again, same) = subst (λ x. IsSortedReply other x now) e is in
       (ms, listed_again names ms (λ n p. file_below count order r within n p.1) listed again, same)
   tells_again r (Lock t) reply now within below e is = e
-  tells_again r (File n stamp) reply now within below e is =
-      subst (λ x. IsSortedReply other x now) e is
-  tells_again r (Gone n) reply now within below e is = subst (λ x. IsSortedReply other x now) e is
-  tells_again r (Unlock t) reply now within below e is = subst (λ x. IsSortedReply other x now) e is
-  tells_again r (Start t) reply now within below e is = subst (λ x. IsSortedReply other x now) e is
-  tells_again r (IfCreate t ns) reply now within below e is =
-      subst (λ x. IsSortedReply other x now) e is
-  tells_again r (Always t) reply now within below e is = subst (λ x. IsSortedReply other x now) e is
-  tells_again r (Stamp t content) reply now within below e is =
-      subst (λ x. IsSortedReply other x now) e is
-  tells_again r (Done t stamp) reply now within below e is =
-      subst (λ x. IsSortedReply other x now) e is
-  tells_again r (Failed t) reply now within below e is = subst (λ x. IsSortedReply other x now) e is
+  tells_again r command reply now within below e is = subst (λ x. IsSortedReply other x now) e is
 
   same_verdict : (r : Records ℕ) (s : ℕ) (holds : Bool) (command : Command ℕ)
       → verdict_of (numbers order) r s holds command ≡ verdict_of (numbers other) r s holds command
   same_verdict r s holds (File n stamp) = refl
-  same_verdict r s holds (Gone n) = refl
-  same_verdict r s holds (Lock t) = refl
-  same_verdict r s holds (Unlock t) = refl
-  same_verdict r s holds (Start t) = refl
-  same_verdict r s holds (IfChange t ns) = refl
-  same_verdict r s holds (IfCreate t ns) = refl
-  same_verdict r s holds (Always t) = refl
-  same_verdict r s holds (Stamp t content) = refl
-  same_verdict r s holds (Done t stamp) = refl
-  same_verdict r s holds (Failed t) = refl
-  same_verdict r s holds Ood = refl
-  same_verdict r s holds Targets = refl
-  same_verdict r s holds Sources = refl
+  same_verdict r s holds command = refl
 
   by_verdict : (v : Option (Refusal ℕ)) (r : Records ℕ) (command : Command ℕ) (reply now : Reply ℕ)
       → IsWithin count r → IsBelow count command

@@ -6,7 +6,7 @@ use Rattle.std.specs.List.{Contains}
 use Rattle.std.specs.declared.cmp.Ordering.{Ordering}
 use Rattle.redodb_model.specs.Names.{put, numbers}
 use Rattle.redodb_model.specs.State.{State, Records, Locks, Cell, empty}
-use Rattle.redodb_model.specs.Command.{Command, File, Gone, Lock, Unlock, Start, IfChange, IfCreate, Always, Stamp, Done, Failed, Ood, Targets, Sources, asked_lock}
+use Rattle.redodb_model.specs.Command.{Command, Lock, Unlock, Start, IfChange, Always, Ood, Targets, Sources, asked_lock}
 use Rattle.redodb_model.specs.Reply.{Refusal, Reply, Refused}
 use Rattle.redodb_model.specs.OutOfDate.{HasFile}
 use Rattle.redodb_model.specs.Step.{Answers, Tells, Replies, after, effect_of, holds_target, locks_after, locks_granted, locks_freed, lock_reply, stale_reply, unless_refused, verdict_of}
@@ -33,20 +33,9 @@ module _ (n : ℕ) (order : ℕ → ℕ → Ordering) where
   always_effect : (r : Records ℕ) (s : ℕ) (command : Command ℕ) → IsBelow n command
       → ((k : ℕ) → n ≤ k → r.rows.always k ≡ false) → (k : ℕ) → n ≤ k
       → (effect_of (numbers order) r s command).rows.always k ≡ false
-  always_effect r s (File m stamp) below none = none
-  always_effect r s (Gone m) below none = none
-  always_effect r s (Lock t) below none = none
-  always_effect r s (Unlock t) below none = none
   always_effect r s (Start t) below none = put_past t false r.rows.always false below.0 none
-  always_effect r s (IfChange t ns) below none = none
-  always_effect r s (IfCreate t ns) below none = none
   always_effect r s (Always t) below none = put_past t true r.rows.always false below.0 none
-  always_effect r s (Stamp t content) below none = none
-  always_effect r s (Done t stamp) below none = none
-  always_effect r s (Failed t) below none = none
-  always_effect r s Ood below none = none
-  always_effect r s Targets below none = none
-  always_effect r s Sources below none = none
+  always_effect r s command below none = none
 
   always_unless : (v : Option (Refusal ℕ)) (old new : Records ℕ) (k : ℕ)
       → old.rows.always k ≡ false → new.rows.always k ≡ false
@@ -81,20 +70,9 @@ module _ (n : ℕ) (order : ℕ → ℕ → Ordering) where
   locks_within : (locks : Locks ℕ) (s : ℕ) (v : Option (Refusal ℕ)) (command : Command ℕ)
       → IsBelow n command → AreLocksWithin locks
       → AreLocksWithin (locks_after (numbers order) locks s v command)
-  locks_within locks s v (File m stamp) below are = are
-  locks_within locks s v (Gone m) below are = are
   locks_within locks s v (Lock t) below are = granted_within (locks.holder t) locks s t below.0 are
   locks_within locks s v (Unlock t) below are = freed_within v locks t below.0 are
-  locks_within locks s v (Start t) below are = are
-  locks_within locks s v (IfChange t ns) below are = are
-  locks_within locks s v (IfCreate t ns) below are = are
-  locks_within locks s v (Always t) below are = are
-  locks_within locks s v (Stamp t content) below are = are
-  locks_within locks s v (Done t stamp) below are = are
-  locks_within locks s v (Failed t) below are = are
-  locks_within locks s v Ood below are = are
-  locks_within locks s v Targets below are = are
-  locks_within locks s v Sources below are = are
+  locks_within locks s v command below are = are
 
   pub IsStateWithin-after : (st : State ℕ) (s : ℕ) (command : Command ℕ) → IsStateWithin n st
       → IsBelow n command → IsStateWithin n (after (numbers order) st s command)
@@ -141,25 +119,17 @@ module _ (n : ℕ) (order : ℕ → ℕ → Ordering) where
 
     tells_below : (command : Command ℕ) (reply : Reply ℕ) → IsBelow n command
         → Tells (numbers order) r command reply → IsReplyBelow n reply
-    tells_below (File m stamp) reply below e = subst (IsReplyBelow n) (sym e) tt
-    tells_below (Gone m) reply below e = subst (IsReplyBelow n) (sym e) tt
     tells_below (Lock t) reply below e = absurd e
-    tells_below (Unlock t) reply below e = subst (IsReplyBelow n) (sym e) tt
-    tells_below (Start t) reply below e = subst (IsReplyBelow n) (sym e) tt
     tells_below (IfChange t ns) reply below (stale, listed, e) =
         subst (IsReplyBelow n) (sym e)
         (stale_below stale (all_below stale (λ k c. in_list ns k below.1 ((listed.1 k).0 c).0)))
-    tells_below (IfCreate t ns) reply below e = subst (IsReplyBelow n) (sym e) tt
-    tells_below (Always t) reply below e = subst (IsReplyBelow n) (sym e) tt
-    tells_below (Stamp t content) reply below e = subst (IsReplyBelow n) (sym e) tt
-    tells_below (Done t stamp) reply below e = subst (IsReplyBelow n) (sym e) tt
-    tells_below (Failed t) reply below e = subst (IsReplyBelow n) (sym e) tt
     tells_below Ood reply below (names, listed, e) =
         subst (IsReplyBelow n) (sym e) (all_below names (λ k c. file_below k ((listed.1 k).0 c).0))
     tells_below Targets reply below (names, listed, e) =
         subst (IsReplyBelow n) (sym e) (all_below names (λ k c. file_below k ((listed.1 k).0 c).0))
     tells_below Sources reply below (names, listed, e) =
         subst (IsReplyBelow n) (sym e) (all_below names (λ k c. file_below k ((listed.1 k).0 c).1))
+    tells_below command reply below e = subst (IsReplyBelow n) (sym e) tt
 
     by_verdict : (v : Option (Refusal ℕ)) (command : Command ℕ) (reply : Reply ℕ)
         → IsBelow n command → RefusesBelow n v

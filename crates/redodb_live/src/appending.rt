@@ -58,27 +58,6 @@ pub(crate) fn line_text(
     Ok(text)
 }
 
-/// Appends one text to `output` and another to `logged`, or neither.
-pub(crate) fn append(
-    output: &mut Vec<u8>,
-    text: &[u8],
-    logged: &mut Vec<u8>,
-    kept: &[u8],
-) -> Result<(), AllocError>
-    ensures output { OnOk result (output.new.items ≡ output.old.items ++ text.now) }
-    ensures logged { OnOk result (logged.new.items ≡ logged.old.items ++ kept.now) }
-    ensures err { OnErr result
-        (AppendsNothing output.old.items output.new.items logged.old.items logged.new.items) }
-{
-    let before = output.len();
-    output.extend_from_slice(text)?;
-    if let Err(refused) = logged.extend_from_slice(kept) {
-        output.truncate(before);
-        return Err(refused);
-    }
-    Ok(())
-}
-
 /// Appends one text of at most `most` bytes to `output` and another to `logged`, or neither.
 pub(crate) fn append_within(
     output: &mut Vec<u8>,
@@ -99,6 +78,11 @@ pub(crate) fn append_within(
     if size > most {
         return Err(AnswerFault::TooLong(size));
     }
-    append(output, text, logged, kept)?;
+    let before = output.len();
+    output.extend_from_slice(text)?;
+    if let Err(refused) = logged.extend_from_slice(kept) {
+        output.truncate(before);
+        return Err(AnswerFault::from(refused));
+    }
     Ok(())
 }

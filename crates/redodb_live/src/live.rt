@@ -315,22 +315,9 @@ impl Live {
         ensures answers { IfOk result (λ reply. Answers by_number (state_of self.new.tables)
             session (command_of command.now) (reply_of reply)) }
     {
-        self.make_room(command)?;
-        self.redo.reply(alloc, session, command)
-    }
-
-    /// Reserves memory for the names, and for the change of the command.
-    fn make_room(&mut self, command: &Command) -> Result<(), AllocError>
-        requires below { IsBelow (length self.old.names) (command_of command.now) }
-        requires names { AreNames self.old.names }
-        ensures names { self.new.names ≡ self.old.names }
-        ensures known { IsSameDatabase self.old self.new }
-        ensures count { OnOk result (length self.new.names ≤ tables_count self.new.tables) }
-        ensures room { OnOk result
-            (has_room_for self.new.tables (command_of command.now) ≡ true) }
-    {
         self.grow()?;
-        self.redo.reserve(command)
+        self.redo.reserve(command)?;
+        self.redo.reply(alloc, session, command)
     }
 
     /// A number for each name, and some more.

@@ -2,7 +2,7 @@
 use Rattle.std.specs.Prelude.{◌≡◌, ℕ, ◌<◌, ◌≤◌, true, List, length, IfSome, ⊤}
 use Rattle.redodb_names.specs.Names.{is_name, AreAllNames}
 use Rattle.redodb_model.specs.Names.{Text}
-use Rattle.redodb_model.specs.State.{State, TargetState, Idle, Building, Built, Failed}
+use Rattle.redodb_model.specs.State.{State, TargetState, Building}
 use Rattle.redodb_model.specs.Why as whys
 use Rattle.redodb_model.specs.Why.{Reason}
 use Rattle.redodb_commands.specs.Stamp.{is_stamp}
@@ -10,12 +10,9 @@ use Rattle.redodb_text.specs.declared.inquiries.Inquiry.{Inquiry}
 use Rattle.redodb_live.specs.Answers.{Answer, AnswersInquiry, Cause, Rows, Uses, Standing}
 
 abbrev pub HasReasonForm : Reason Text → Type 0
-HasReasonForm whys.Building = ⊤
-HasReasonForm whys.Failed = ⊤
-HasReasonForm whys.Edited = ⊤
-HasReasonForm whys.Always = ⊤
 HasReasonForm (whys.Appeared n) = is_name n ≡ true
 HasReasonForm (whys.Changed n) = is_name n ≡ true
+HasReasonForm reason = ⊤
 
 abbrev pub HasWhyForm : whys.Why Text → Type 0
 HasWhyForm why = AreAllNames why.names × HasReasonForm why.reason
@@ -25,10 +22,8 @@ abbrev pub AreCountedNames : List Text → Type 0
 AreCountedNames names = AreAllNames names × (length names ≤ 4294967295)
 
 abbrev pub HasStateForm : TargetState → Type 0
-HasStateForm Idle = ⊤
 HasStateForm (Building session) = session < 65536
-HasStateForm Built = ⊤
-HasStateForm Failed = ⊤
+HasStateForm state = ⊤
 
 abbrev pub HasAnswerForm : Answer → Type 0
 HasAnswerForm (Cause found) = IfSome found HasWhyForm

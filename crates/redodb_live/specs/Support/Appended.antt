@@ -61,8 +61,8 @@ pub record IsReplyLine (live : LiveState) (session : ℕ) (command : Command ℕ
   pub text_is : text ≡ line_text_of (line_at live.names line)
 
 -- the line was appended to `output`, and to `logged` if it changes something
-pub record AppendsLine (old new : LiveState) (line : Line Text) (output output_after logged logged_after
-    : Text) : Type 0 where
+pub record AppendsLine (old new : LiveState) (line : Line Text) (output output_after logged
+    logged_after : Text) : Type 0 where
   pub writes : output_after ≡ output ++ line_text_of line
   pub logs : logged_after ≡ logged ++ logged_text (state_in old) line
   pub calls : calls_in new ≡ calls_in old + 1

@@ -2,7 +2,7 @@
 use Rattle.std.specs.Prelude.{◌≡◌, ℕ, List}
 use Rattle.std.specs.List.Sorted.{IsPermutation, IsSorted}
 use Rattle.std.specs.declared.cmp.Ordering.{Ordering}
-use Rattle.redodb_model.specs.Reply.{Reply, Okay, Granted, Busy, Stale, Stamped, Ood, Targets, Sources, Refused}
+use Rattle.redodb_model.specs.Reply.{Reply, Stale, Ood, Targets, Sources}
 
 -- the same numbers, sorted
 pub record AreSortedAgain (order : ℕ → ℕ → Ordering) (old new : List ℕ) : Type 0 where
@@ -18,8 +18,4 @@ IsSortedReply order (Targets ns) reply =
     (ms : List ℕ) × AreSortedAgain order ns ms × (reply ≡ Targets ms)
 IsSortedReply order (Sources ns) reply =
     (ms : List ℕ) × AreSortedAgain order ns ms × (reply ≡ Sources ms)
-IsSortedReply order Okay reply = reply ≡ Okay
-IsSortedReply order (Granted g) reply = reply ≡ Granted g
-IsSortedReply order (Busy g) reply = reply ≡ Busy g
-IsSortedReply order (Stamped digest) reply = reply ≡ Stamped digest
-IsSortedReply order (Refused refusal) reply = reply ≡ Refused refusal
+IsSortedReply order other reply = reply ≡ other

@@ -1,5 +1,5 @@
 //! Questions about names. They change nothing, and a name that isn't known is idle.
-ghost use Rattle.std.specs.Prelude.{◌≡◌, ◌<◌, ◌++◌, length, option_map, IfOk, IfSome, IsNone, OnOk, OnErr};
+ghost use Rattle.std.specs.Prelude.{◌≡◌, ◌++◌, length, option_map, IfOk, IfSome, IsNone, OnOk, OnErr};
 ghost use Rattle.std.specs.List.{flat_map};
 ghost use Rattle.redodb_names.specs.Support.Names.{AreNames};
 ghost use Rattle.redodb_model.specs.Deps.{AreDeps};
@@ -9,10 +9,9 @@ ghost use Rattle.redodb_model.specs.Users.{AreUsers};
 ghost use Rattle.redodb_model.specs.Support.Users.{AreUsersBelow, IsUnused};
 ghost use Rattle.redodb_model.specs.Why.{TellsWhy};
 ghost use Rattle.redodb_model.specs.Support.Why.{IsWhyBelow};
-ghost use Rattle.redodb_model.specs.Names.{Text, texts, text_at};
+ghost use Rattle.redodb_model.specs.Names.{Text, texts};
 ghost use Rattle.redodb_model.specs.State.{target_state};
 ghost use Rattle.redodb_database.specs.Meaning.{deps_of, users_of, why_of};
-ghost use Rattle.redodb_database.specs.Tables.{tables_count};
 ghost use Rattle.redodb_text.specs.Texts.{after_space};
 ghost use Rattle.redodb_text.specs.Inquiries.{inquiry_word};
 ghost use Rattle.redodb_live.specs.Answers.{Answer, IsAnswer, Rows, Standing, Uses, answer_words, inquiry_of, state_words};
@@ -138,25 +137,7 @@ impl Live {
         }
     }
 
-    /// On which names the target with this number has rows, in the order of their texts.
-    fn sorted_deps(&self, alloc: Global, t: u32) -> Result<Deps, AllocError>
-        requires name { t < length self.now.names }
-        requires number { t < tables_count self.now.tables }
-        requires names { AreNames self.now.names }
-        ensures deps { IfOk result (λ deps. AreDeps texts (state_in self.now).records
-            (text_at self.now.names t) (deps_at self.now.names deps)) }
-        ensures below { IfOk result
-            (λ deps. AreDepsBelow (length self.now.names) (deps_of deps)) }
-        ensures form { IfOk result
-            (λ deps. HasAnswerForm (Rows (deps_at self.now.names deps))) }
-    {
-        let mut deps = self.redo.deps(alloc, t)?;
-        sort(&self.names, &mut deps.change);
-        sort(&self.names, &mut deps.created);
-        Ok(deps)
-    }
-
-    /// On which names the target has rows.
+    /// On which names the target has rows, in the order of their texts.
     fn deps(&self, alloc: Global, name: &[u8]) -> Result<Deps, AllocError>
         ensures deps { IfOk result (λ deps. AreDeps texts (state_in self.now).records name.now
             (deps_at self.now.names deps)) }
@@ -166,7 +147,12 @@ impl Live {
             (λ deps. HasAnswerForm (Rows (deps_at self.now.names deps))) }
     {
         match self.known_number(name) {
-            Some(t) => self.sorted_deps(alloc, t),
+            Some(t) => {
+                let mut deps = self.redo.deps(alloc, t)?;
+                sort(&self.names, &mut deps.change);
+                sort(&self.names, &mut deps.created);
+                Ok(deps)
+            }
             None => Ok(Deps {
                 change: Vec::new(alloc),
                 created: Vec::new(alloc),
@@ -175,25 +161,7 @@ impl Live {
         }
     }
 
-    /// Which targets have rows on the name with this number, in the order of their texts.
-    fn sorted_users(&self, alloc: Global, n: u32) -> Result<Users, AllocError>
-        requires name { n < length self.now.names }
-        requires number { n < tables_count self.now.tables }
-        requires names { AreNames self.now.names }
-        ensures users { IfOk result (λ users. AreUsers texts (state_in self.now).records
-            (text_at self.now.names n) (users_at self.now.names users)) }
-        ensures below { IfOk result
-            (λ users. AreUsersBelow (length self.now.names) (users_of users)) }
-        ensures form { IfOk result
-            (λ users. HasAnswerForm (Uses (users_at self.now.names users))) }
-    {
-        let mut users = self.redo.users(alloc, n)?;
-        sort(&self.names, &mut users.change);
-        sort(&self.names, &mut users.created);
-        Ok(users)
-    }
-
-    /// Which targets have rows on it.
+    /// Which targets have rows on the name, in the order of their texts.
     fn users(&self, alloc: Global, name: &[u8]) -> Result<Users, AllocError>
         ensures users { IfOk result (λ users. AreUsers texts (state_in self.now).records name.now
             (users_at self.now.names users)) }
@@ -203,7 +171,12 @@ impl Live {
             (λ users. HasAnswerForm (Uses (users_at self.now.names users))) }
     {
         match self.known_number(name) {
-            Some(n) => self.sorted_users(alloc, n),
+            Some(n) => {
+                let mut users = self.redo.users(alloc, n)?;
+                sort(&self.names, &mut users.change);
+                sort(&self.names, &mut users.created);
+                Ok(users)
+            }
             None => Ok(Users {
                 change: Vec::new(alloc),
                 created: Vec::new(alloc),

@@ -15,7 +15,7 @@ ghost use Rattle.redodb_history.specs.Recorded.{AreLinesBelow};
 ghost use Rattle.redodb_live.specs.Support.Ended.{end_text};
 ghost use Rattle.redodb_live.specs.Support.ClosingLines.{TakesNoRoom, letting};
 
-use crate::appending::append;
+use crate::appending::append_within;
 use crate::fault::{AnswerFault, Unanswered};
 use crate::live::Live;
 use crate::ordering::sort;
@@ -144,11 +144,7 @@ impl Live {
         self.names.are_names();
         let kept = lines_text(alloc, &lines, &self.names)?;
         let text = with_end(alloc, session, &kept)?;
-        let size = text.len();
-        if size > most {
-            return Err(AnswerFault::TooLong(size));
-        }
-        append(output, &text, logged, &kept)?;
+        append_within(output, &text, most, logged, &kept)?;
         close(&mut self.redo, &lines);
         Ok(())
     }

@@ -36,9 +36,9 @@ as_known before after old new n names was is count grows same first =
 
 pub returns-in-Err-clause-known : goal.returns-in-Err-clause-known
 returns-in-Err-clause-known c =
-    as_known c.self.inside c.self-2.inside c.args.self.now c.read_and_obey.new.self c.len-count.result
-    c.keep_first.new.self c.self.view_is c.self-2.view_is c.len-count.ensures.count
-    c.in-Err.ensures.kept c.in-Err.ensures.known c.keep_first.ensures
+    as_known c.self.inside c.self-2.inside c.args.self.now c.read_and_obey.new.self
+    c.len-count.result c.keep_first.new.self c.self.view_is c.self-2.view_is
+    c.len-count.ensures.count c.in-Err.ensures.kept c.in-Err.ensures.known c.keep_first.ensures
 
 pub invariant_of-self : goal.invariant_of-self
 invariant_of-self c =

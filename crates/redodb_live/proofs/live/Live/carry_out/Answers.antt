@@ -117,9 +117,9 @@ returns-clause-obeyed c =
     let changes = c.changes-changes.result in
     obeyed names due.names tables c.self.invariant.state line.session (command_of line.command)
     due.below line reply text is c.change.new.self c.change.ensures.after c.change.ensures.calls
-    c.args.self.now output c.append_within.new.output.items logged c.append_within.new.logged.items changes
-    (ap (λ (l : LiveState). l.names) whole) (ap (λ (l : LiveState). state_of l.tables) whole)
-    (ap calls_in whole) c.changes-changes.ensures
+    c.args.self.now output c.append_within.new.output.items logged c.append_within.new.logged.items
+    changes (ap (λ (l : LiveState). l.names) whole) (ap (λ (l : LiveState). state_of l.tables)
+    whole) (ap calls_in whole) c.changes-changes.ensures
     (c.in_ok-append_within.ensures.output ∙ ap (λ (t : Text). output ++ t) c.deref.ensures.value)
     (c.in_ok-append_within.ensures.logged
     ∙ ap (λ (t : Text). logged ++ t) (c.text_if.ensures

@@ -1,4 +1,5 @@
-use Rattle.std.proofs.Common.{◌≡◌, ◌+◌, ◌^◌, ◌<◌, ◌++◌, List, length, length-append, map, sym, ap, ◌∙◌, subst, arith, rules, vec_len}
+use Rattle.std.proofs.Common.{◌≡◌, ◌+◌, ◌^◌, ◌<◌, ◌++◌, List, length, map, sym, ap, ◌∙◌, subst}
+use Rattle.std.proofs.lemmas.Result.{err_from_is_err_and}
 use Rattle.std.specs.List.{AllByRecursion, flat_map}
 use Rattle.redodb_model.specs.Names.{Text, by_number}
 use Rattle.redodb_model.specs.History.{LegalFrom, left_by}
@@ -14,71 +15,52 @@ use Rattle.redodb_live.specs.Support.Kept.{live_of}
 use Rattle.redodb_live.specs.Support.LiveState.{LiveState}
 use Rattle.redodb_live.specs.Support.Appended.{EndsSession}
 use Rattle.redodb_live.specs.Support.AnswerFaults.{WouldEnd}
-use Rattle.redodb_live.proofs.Ending.{close_below, close_calls, close_legal, close_room, ends, kept_end, lines_are_below, would_end}
+use Rattle.redodb_live.proofs.Ending.{close_below, close_calls, close_legal, close_room, ends, kept_end, lines_are_below, unended, would_end}
 use Rattle.redodb_live.proofs.live.Live.end_within.Goals as goal
+use Rattle.redodb_live.proofs.live.Live.end_within.Goals.{After-are_names}
+
+-- the lines close what the session holds
+closing : (c : After-are_names) → AreClosing (live_of c.self.inside) c.args.session
+    (map line_of c.in_ok-lines.lines.items)
+closing c =
+    subst (λ (l : LiveState). AreClosing l c.args.session (map line_of c.in_ok-lines.lines.items))
+    (sym c.self.view_is) c.in_ok-lines.ensures
 
 pub lines_text-requires : goal.lines_text-requires
 lines_text-requires c =
     let lines = c.in_ok-lines.lines.items in
-    let closing : AreClosing (live_of c.self.inside) c.args.session (map line_of lines) =
-    subst (λ (l : LiveState). AreClosing l c.args.session (map line_of lines))
-    (sym c.self.view_is) c.in_ok-lines.ensures in
+    let closing = closing (goal.at.lines_text-requires c).After-are_names in
     subst (AreLinesBelow c.self.inside.names) (sym c.deref.ensures.value)
     (lines_are_below c.self.inside.names c.are_names.ensures c.self.inside.redo
     c.self.invariant.state c.args.session lines closing)
 
-pub close-requires-clause-below : goal.close-requires-clause-below
-close-requires-clause-below c =
+pub close-requires : goal.close-requires
+close-requires c =
+    let names = c.self.inside.names in
+    let are = c.are_names.ensures in
+    let tables = c.self.inside.redo in
+    let state = c.self.invariant.state in
     let lines = c.in_ok-lines.lines.items in
-    let closing : AreClosing (live_of c.self.inside) c.args.session (map line_of lines) =
-    subst (λ (l : LiveState). AreClosing l c.args.session (map line_of lines))
-    (sym c.self.view_is) c.in_ok-lines.ensures in
-    subst (λ (ls : List Line). AllByRecursion
-    (λ line. IsBelow (tables_count c.self.inside.redo) (command_of line.command)) ls)
-    (sym c.deref-5.ensures.value)
-    (close_below c.self.inside.names c.are_names.ensures c.self.inside.redo
-    c.self.invariant.state c.args.session lines closing)
-
-pub close-requires-clause-room : goal.close-requires-clause-room
-close-requires-clause-room c =
-    let lines = c.in_ok-lines.lines.items in
-    let closing : AreClosing (live_of c.self.inside) c.args.session (map line_of lines) =
-    subst (λ (l : LiveState). AreClosing l c.args.session (map line_of lines))
-    (sym c.self.view_is) c.in_ok-lines.ensures in
-    subst (λ (ls : List Line). AllByRecursion (λ line. TakesNoRoom (command_of line.command)) ls)
-    (sym c.deref-5.ensures.value)
-    (close_room c.self.inside.names c.are_names.ensures c.self.inside.redo
-    c.self.invariant.state c.args.session lines closing)
-
-pub close-requires-clause-calls : goal.close-requires-clause-calls
-close-requires-clause-calls c =
-    let lines = c.in_ok-lines.lines.items in
-    let closing : AreClosing (live_of c.self.inside) c.args.session (map line_of lines) =
-    subst (λ (l : LiveState). AreClosing l c.args.session (map line_of lines))
-    (sym c.self.view_is) c.in_ok-lines.ensures in
-    subst (λ (ls : List Line). calls_of c.self.inside.redo + length ls < 2 ^ 32)
-    (sym c.deref-5.ensures.value)
-    (close_calls c.self.inside.names c.are_names.ensures c.self.inside.redo
-    c.self.invariant.state c.args.session lines closing)
-
-pub close-requires-clause-legal : goal.close-requires-clause-legal
-close-requires-clause-legal c =
-    let lines = c.in_ok-lines.lines.items in
-    let closing : AreClosing (live_of c.self.inside) c.args.session (map line_of lines) =
-    subst (λ (l : LiveState). AreClosing l c.args.session (map line_of lines))
-    (sym c.self.view_is) c.in_ok-lines.ensures in
-    subst (λ (ls : List Line). LegalFrom by_number (state_of c.self.inside.redo) (map line_of ls))
-    (sym c.deref-5.ensures.value)
-    (close_legal c.self.inside.names c.are_names.ensures c.self.inside.redo
-    c.self.invariant.state c.args.session lines closing)
+    let closing = closing (goal.at.close-requires c).After-are_names in
+    let again = sym c.deref-5.ensures.value in
+    record {
+      below = subst
+          (AllByRecursion (λ line. IsBelow (tables_count tables) (command_of line.command))) again
+          (close_below names are tables state c.args.session lines closing);
+      room = subst (AllByRecursion (λ line. TakesNoRoom (command_of line.command))) again
+          (close_room names are tables state c.args.session lines closing);
+      calls = subst (λ (ls : List Line). calls_of tables + length ls < 2 ^ 32) again
+          (close_calls names are tables state c.args.session lines closing);
+      legal = subst
+          (λ (ls : List Line). LegalFrom by_number (state_of tables) (map line_of ls)) again
+          (close_legal names are tables state c.args.session lines closing);
+    }
 
 pub invariant_of-self : goal.invariant_of-self
 invariant_of-self c =
     let lines = c.in_ok-lines.lines.items in
     let tables = c.self.inside.redo in
-    let closing : AreClosing (live_of c.self.inside) c.args.session (map line_of lines) =
-    subst (λ (l : LiveState). AreClosing l c.args.session (map line_of lines))
-    (sym c.self.view_is) c.in_ok-lines.ensures in
+    let closing = closing (goal.at.invariant_of-self c).After-are_names in
     record {
       few = c.self.invariant.few;
       state = kept_end c.self.inside.names c.are_names.ensures tables c.self.invariant.state
@@ -99,15 +81,13 @@ returns-clause-ended c =
     let next : LiveState = record { names = names; tables = c.close.new.redo } in
     let output = c.args.output.now.items in
     let logged = c.args.logged.now.items in
-    let closing : AreClosing (live_of c.self.inside) c.args.session (map line_of lines) =
-    subst (λ (l : LiveState). AreClosing l c.args.session (map line_of lines))
-    (sym c.self.view_is) c.in_ok-lines.ensures in
+    let closing = closing (goal.at.returns-clause-ended c).After-are_names in
     let kept : c.in_ok-kept.kept.items ≡ flat_map line_text_of (map (line_at names) lines) =
     c.in_ok-kept.ensures
     ∙ ap (λ (ls : List Line). flat_map line_text_of (map (line_at names) ls))
     c.deref.ensures.value in
-    subst (λ (l : LiveState). EndsSession l next c.args.session output c.append.new.output.items logged
-    c.append.new.logged.items) c.self.view_is
+    subst (λ (l : LiveState). EndsSession l next c.args.session output c.append_within.new.output.items
+    logged c.append_within.new.logged.items) c.self.view_is
     (ends names c.are_names.ensures tables c.self.invariant.state c.args.session lines closing
     c.close.new.redo
     (c.close.ensures.left
@@ -115,42 +95,32 @@ returns-clause-ended c =
     c.deref-5.ensures.value)
     (c.close.ensures.calls
     ∙ ap (λ (ls : List Line). calls_of tables + length ls) c.deref-5.ensures.value)
-    output c.append.new.output.items logged c.append.new.logged.items
-    (c.in_ok-append.ensures.output
+    output c.append_within.new.output.items logged c.append_within.new.logged.items
+    (c.in_ok-append_within.ensures.output
     ∙ ap (λ (t : Text). output ++ t) (c.deref-3.ensures.value ∙ c.in_ok-text.ensures
     ∙ ap (λ (t : Text). t ++ end_text c.args.session) (c.deref-2.ensures.value ∙ kept)))
-    (c.in_ok-append.ensures.logged
+    (c.in_ok-append_within.ensures.logged
     ∙ ap (λ (t : Text). logged ++ t) (c.deref-4.ensures.value ∙ kept)))
 
-pub returns-then-size-most-clause-cause : goal.returns-then-size-most-clause-cause
-returns-then-size-most-clause-cause c =
+pub returns-in_err-append_within-clause-cause : goal.returns-in_err-append_within-clause-cause
+returns-in_err-append_within-clause-cause c =
     let lines = c.in_ok-lines.lines.items in
     let names = c.self.inside.names in
-    let tables = c.self.inside.redo in
-    let closing : AreClosing (live_of c.self.inside) c.args.session (map line_of lines) =
-    subst (λ (l : LiveState). AreClosing l c.args.session (map line_of lines))
-    (sym c.self.view_is) c.in_ok-lines.ensures in
+    let session = c.args.session in
+    let text = c.deref-3.result.now in
+    let closing = closing (goal.at.returns-in_err-append_within-clause-cause c).After-are_names in
     let kept : c.in_ok-kept.kept.items ≡ flat_map line_text_of (map (line_at names) lines) =
     c.in_ok-kept.ensures
     ∙ ap (λ (ls : List Line). flat_map line_text_of (map (line_at names) ls))
     c.deref.ensures.value in
-    let text = c.in_ok-text.text in
-    let counted : vec_len text ≡ length text.items = search rules in
-    let size = c.len-size.ensures ∙ counted
-    ∙ ap length (c.in_ok-text.ensures
-    ∙ ap (λ (t : Text). t ++ end_text c.args.session) (c.deref-2.ensures.value ∙ kept)) in (
-      omega (arith, c.if-size-most.true),
-      subst (λ (l : LiveState). WouldEnd l c.args.session c.len-size.result) c.self.view_is
-          (subst (WouldEnd (live_of c.self.inside) c.args.session) (sym size)
-          (would_end names c.are_names.ensures tables c.self.invariant.state c.args.session lines
-          closing)),
-    )
-
-pub returns-clause-fits : goal.returns-clause-fits
-returns-clause-fits c =
-    let output = c.args.output.now.items in
-    let text = c.in_ok-text.text in
-    let counted : vec_len text ≡ length text.items = search rules in
-    let grown = ap length (c.in_ok-append.ensures.output
-    ∙ ap (λ (t : Text). output ++ t) c.deref-3.ensures.value) in
-    omega (arith, grown, length-append output text.items, c.len-size.ensures ∙ counted)
+    let whole = c.deref-3.ensures.value ∙ c.in_ok-text.ensures
+    ∙ ap (λ (t : Text). t ++ end_text session) (c.deref-2.ensures.value ∙ kept) in
+    let would = subst (λ (l : LiveState). WouldEnd l session (length text)) c.self.view_is
+    (subst (WouldEnd (live_of c.self.inside) session) (sym (ap length whole))
+    (would_end names c.are_names.ensures c.self.inside.redo c.self.invariant.state session lines
+    closing)) in
+    let failed = err_from_is_err_and c.from_residual-in_err-append_within.result
+    c.from_residual-in_err-append_within.ensures.1 in
+    rw (failed.1, failed.2)
+    (unended c.args.self.now session c.args.most c.in_err-append_within.field-0.0 text would
+    c.in_err-append_within.ensures.cause)

@@ -13,8 +13,8 @@ use Rattle.redodb_live.proofs.Asking.{state_over_names}
 use Rattle.redodb_live.proofs.live.Live.put_state.Goals as goal
 
 -- what is printed is what is true of the name
-same_standing : (c : goal.After-put_state) → Standing (target_state_of c.state.result) c.holder.result
-    c.file.result
+same_standing : (c : goal.After-put_state) → Standing (target_state_of c.state.result)
+    c.holder.result c.file.result
     ≡ Standing (target_state (state_in c.args.self.now).records c.args.name.now)
     ((state_in c.args.self.now).locks.holder c.args.name.now)
     ((state_in c.args.self.now).records.cell c.args.name.now).file
@@ -39,7 +39,8 @@ pub returns-in-Some-clause-words : goal.returns-in-Some-clause-words
 returns-in-Some-clause-words c =
     IfOk-equal c.put_state.result _ _ _ c.put_state.ensures.words
     (ap (λ (answer : Answer).
-    c.args.line.now.items ++ flat_map after_space (answer_words c.args.name.now answer)) (same_standing c))
+    c.args.line.now.items ++ flat_map after_space (answer_words c.args.name.now answer))
+    (same_standing c))
 
 pub returns-in-Some-clause-form : goal.returns-in-Some-clause-form
 returns-in-Some-clause-form c =

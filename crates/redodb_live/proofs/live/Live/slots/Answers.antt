@@ -10,8 +10,8 @@ known c =
     let t = c.args.t in
     let below = subst (λ (l : LiveState). t < length l.names) (sym c.self.view_is) c.requires in
     subst (λ (l : LiveState). AreSlotsOf l t c.slots.result.now) c.self.view_is
-    (slots_over_names (live_of c.self.inside) c.are_names.ensures c.self.invariant.state.within t below
-    c.slots.result.now c.slots.ensures.change c.slots.ensures.created)
+    (slots_over_names (live_of c.self.inside) c.are_names.ensures c.self.invariant.state.within t
+    below c.slots.result.now c.slots.ensures.change c.slots.ensures.created)
 
 -- no slots of another
 unknown : (c : goal.After-result-1) → AreSlotsOf c.args.self.now c.args.t []
@@ -21,8 +21,8 @@ unknown c =
     let none = c.count.ensures.others t
     (omega (arith, c.if-t-count.false, c.count.ensures.count)) in
     subst (λ (l : LiveState). AreSlotsOf l t []) c.self.view_is
-    (slots_over_names (live_of c.self.inside) c.are_names.ensures c.self.invariant.state.within t below
-    [] (λ n. sym (none.change n)) (λ n. sym (none.created n)))
+    (slots_over_names (live_of c.self.inside) c.are_names.ensures c.self.invariant.state.within t
+    below [] (λ n. sym (none.change n)) (λ n. sym (none.created n)))
 
 pub returns-then-t-count-clause-change : goal.returns-then-t-count-clause-change
 returns-then-t-count-clause-change c = (known c).change
