@@ -28,7 +28,6 @@ use Rattle.redodb_dump.specs.Dumps.{HasSessions, IsStateOver, dump_of}
 use Rattle.redodb_log.specs.Logs.{dump_header, head_of, AreLogged, IsPast}
 use Rattle.redodb_conversation.specs.Rounds.{Round, AreEnds, AreRounds, end_word, end_text_of, lines_in}
 use Rattle.redodb_conversation.specs.Talks.{HoldsNothing}
-use Rattle.redodb_conversation.specs.Support.LeftBy.{IsLeftBy}
 use Rattle.redodb_conversation.specs.Support.Opening.{EndsAll}
 use Rattle.redodb_conversation.specs.Support.Places.{known_of}
 use Rattle.redodb_conversation.specs.Support.Steps.{Known, LeadsTo, Ending, AreSteps}
@@ -58,7 +57,8 @@ holder_below lines logged t s holds = elim (cases_lt s 65535) [
 ]
 
 pub session_below : (live : LiveState) (before : List (Line Text)) (s : ℕ) → AreLogged before
-    → IsLeftBy live before → (t : Text) × ((state_in live).locks.holder t ≡ Some s) → s < 65535
+    → LeadsTo before (known_of live) → (t : Text) × ((state_in live).locks.holder t ≡ Some s)
+    → s < 65535
 session_below live before s logged left (t, holds) =
     holder_below before logged t s
     (subst (λ (st : State Text). st.locks.holder t ≡ Some s) left.state_is holds)
@@ -111,15 +111,6 @@ pub record AreEndedSoFar (old new : LiveState) (sessions : List ℕ) (logged log
   pub left : state_in new ≡ without_each sessions (state_in old)
   pub logs : logged_after ≡ logged ++ lines_text_of (lines_in rounds)
 
-pub none_ended : (live : LiveState) (logged : Text) → AreEndedSoFar live live [] logged logged
-none_ended live logged = record {
-  rounds = [];
-  asked = refl;
-  endings = refl;
-  left = refl;
-  logs = sym (append-nil logged);
-}
-
 -- the same, when one session more ended
 without_more : (sessions : List ℕ) (s : ℕ) (st : State Text)
     → without_each (sessions ++ s ∷ []) st ≡ state_without s (without_each sessions st)
@@ -133,21 +124,12 @@ lines_more rounds round =
     ∙ ap (λ ls. lines_in rounds ++ ls) (append-nil round.lines))
     ∙ flat_map-append line_text_of (lines_in rounds) round.lines
 
-leads_to : (live : LiveState) (before : List (Line Text)) → IsLeftBy live before
-    → LeadsTo before (known_of live)
-leads_to live before is = record {
-  legal = is.legal;
-  names_are = is.names_are;
-  state_is = is.state_is;
-  few_calls = is.few_calls;
-}
-
-module _ (before : List (Line Text)) (old new : LiveState) (left : IsLeftBy old before)
+module _ (before : List (Line Text)) (old new : LiveState) (left : LeadsTo before (known_of old))
     (sessions : List ℕ) (logged middle : Text)
     (so_far : AreEndedSoFar old new sessions logged middle)
   where
     led : LeadsTo (before ++ lines_in so_far.rounds) (known_of new)
-    led = steps_lead before (known_of old) (known_of new) so_far.rounds (leads_to old before left)
+    led = steps_lead before (known_of old) (known_of new) so_far.rounds left
         (endings_are_steps (known_of old) (known_of new) so_far.rounds so_far.endings)
 
     builders : BuildersHold (state_in new)
@@ -215,8 +197,8 @@ module _ (before : List (Line Text)) (old new : LiveState) (left : IsLeftBy old 
         ))
 
     are_ends : AreEnds before so_far.rounds
-    are_ends = endings_are_ends before (known_of old) (known_of new) so_far.rounds
-        (leads_to old before left) so_far.endings
+    are_ends = endings_are_ends before (known_of old) (known_of new) so_far.rounds left
+        so_far.endings
 
     -- the lines of the ends can be logged, too
     ends_logged : AreLogged before → AreLogged (before ++ lines_in so_far.rounds)
@@ -246,12 +228,7 @@ module _ (before : List (Line Text)) (old new : LiveState) (left : IsLeftBy old 
         are_ends = are_ends;
         nothing = nothing_held (λ t s is. (holders s).1 (t, is)) builds;
       };
-      left = record {
-        legal = led.legal;
-        names_are = led.names_are;
-        state_is = led.state_is;
-        few_calls = led.few_calls;
-      };
+      left = led;
       logged_lines = ends_logged are_logged;
       logs = so_far.logs;
     }
@@ -270,7 +247,7 @@ has_sessions lines logged t =
 pub dump_is : (live : LiveState) (log : Text)
     → log ≡ dump_header ++ dump_of live.names (state_in live)
     → (HasSessions (state_in live) → IsStateOver live.names (state_in live))
-    → (before : List (Line Text)) → AreLogged before → IsLeftBy live before
+    → (before : List (Line Text)) → AreLogged before → LeadsTo before (known_of live)
     → IsPast (Some before) × (log ≡ head_of (Some before))
 dump_is live log e over before logged left = (
   record {

@@ -10,7 +10,7 @@ use Rattle.redodb_conversation.specs.declared.opening.Opened.{Opened}
 use Rattle.redodb_conversation.specs.declared.opening.Rest.{Rest}
 use Rattle.redodb_conversation.specs.declared.opening.Rest.TheVariants.{Nothing, Torn, Damaged}
 use Rattle.redodb_conversation.specs.declared.fault.ServeFault.{ServeFault}
-use Rattle.redodb_conversation.specs.declared.fault.ServeFault.TheVariants.{Memory, Worn, State, Differs, Log, Read, TooLong, Write as WriteFault}
+use Rattle.redodb_conversation.specs.declared.fault.ServeFault.TheVariants.{Log, Write as WriteFault}
 
 pub follows_itself : (done : List Operation) → IsFollowedBy done done
 follows_itself done = ([], refl)
@@ -53,33 +53,28 @@ sending_follows (Err e) sync logged output done done_after ok err =
     part_follows sync logged output done done_after err
 
 pub fault_follows : {T E : Type 0} (r : Result T E) (sync : Bool)
-    (logged logged_after output output_after text : Text) (done done_after : List Operation)
-    → OnOk r (IsKeptBack done done_after logged logged_after output output_after text
-    ⊎ IsSent sync done done_after logged logged_after output output_after text)
-    → OnErr r (IsFaultSentInPart sync logged output text done done_after) → IsFollowedBy done done_after
-fault_follows (Ok x) sync logged logged_after output output_after text done done_after (inl kept) err =
+    (logged logged' output output' text : Text) (done done' : List Operation)
+    → OnOk r (IsKeptBack done done' logged logged' output output' text
+    ⊎ IsSent sync done done' logged logged' output output' text)
+    → OnErr r (IsFaultSentInPart sync logged output text done done') → IsFollowedBy done done'
+fault_follows (Ok x) sync logged logged' output output' text done done' (inl kept) err =
     ([], kept.same)
-fault_follows (Ok x) sync logged logged_after output output_after text done done_after (inr is) err =
+fault_follows (Ok x) sync logged logged' output output' text done done' (inr is) err =
     let middle = sent_after sync logged output done in
-    follows_all done middle done_after (sent_follows sync logged output done middle refl)
-    (sent_follows sync [] text middle done_after is.sent)
-fault_follows (Err e) sync logged logged_after output output_after text done done_after ok (inl part) =
-    part_follows sync logged output done done_after part
-fault_follows (Err e) sync logged logged_after output output_after text done done_after ok (inr part) =
+    follows_all done middle done' (sent_follows sync logged output done middle refl)
+    (sent_follows sync [] text middle done' is.sent)
+fault_follows (Err e) sync logged logged' output output' text done done' ok (inl part) =
+    part_follows sync logged output done done' part
+fault_follows (Err e) sync logged logged' output output' text done done' ok (inr part) =
     let middle = sent_after sync logged output done in
-    follows_all done middle done_after (sent_follows sync logged output done middle refl)
-    (part_follows sync [] text middle done_after part)
+    follows_all done middle done' (sent_follows sync logged output done middle refl)
+    (part_follows sync [] text middle done' part)
 
 pub send_fault_talks : (done : List Operation) (fault : ServeFault) → IsSendCause done fault
     → IsTalkFault done fault
 send_fault_talks done (Log fault) cause = cause
 send_fault_talks done WriteFault cause = cause
-send_fault_talks done Memory cause = absurd cause
-send_fault_talks done Worn cause = absurd cause
-send_fault_talks done (State line) cause = absurd cause
-send_fault_talks done (Differs line) cause = absurd cause
-send_fault_talks done Read cause = absurd cause
-send_fault_talks done TooLong cause = absurd cause
+send_fault_talks done fault cause = absurd cause
 
 -- what came of the opening of a log
 cut_follows : (rest : Rest) (size : ℕ) (done : List Operation)

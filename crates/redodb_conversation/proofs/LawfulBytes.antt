@@ -9,8 +9,8 @@ use Rattle.redodb_conversation.specs.Rounds.{Round, received_in}
 use Rattle.redodb_conversation.specs.Talks.{AreLines}
 
 -- a line at the beginning
-line_first : (round : Round) (rounds : List Round) (rest : Text) → received_in (round ∷ rounds) ++ rest
-    ≡ round.received ++ 10 ∷ (received_in rounds ++ rest)
+line_first : (round : Round) (rounds : List Round) (rest : Text)
+    → received_in (round ∷ rounds) ++ rest ≡ round.received ++ 10 ∷ (received_in rounds ++ rest)
 line_first round rounds rest =
     append_assoc (ended round.received) (received_in rounds) rest
     ∙ append_assoc round.received (10 ∷ []) (received_in rounds ++ rest)
@@ -30,7 +30,7 @@ received_once [] (round ∷ b) rest last p q free other e = absurd (no_line roun
 received_once (round ∷ a) [] rest last p q free other e =
     absurd (no_line round a last rest other (sym e))
 received_once (round ∷ a) (next ∷ b) rest last p q free other e =
-    let cut = one_cut round.received next.received (received_in a ++ rest) (received_in b ++ last) 10 p.0 q.0
-    (sym (line_first round a rest) ∙ e ∙ line_first next b last) in
+    let cut = one_cut round.received next.received (received_in a ++ rest) (received_in b ++ last)
+    10 p.0 q.0 (sym (line_first round a rest) ∙ e ∙ line_first next b last) in
     let others = received_once a b rest last p.1 q.1 free other cut.1 in
     (λ i. cut.0 i ∷ others i)

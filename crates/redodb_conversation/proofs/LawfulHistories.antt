@@ -12,7 +12,7 @@ use Rattle.redodb_history.proofs.HistoryReadsBack.{legal_history_reads_back}
 use Rattle.redodb_live.specs.Lines.{names_after}
 use Rattle.redodb_log.specs.Logs.{AreLogged}
 use Rattle.redodb_conversation.specs.Support.Laws.{AreFew}
-use Rattle.redodb_conversation.proofs.LawfulLines.{own_names}
+use Rattle.redodb_log.proofs.Grown.{own_names}
 
 few_sessions : (lines : List (Line Text)) → AllByRecursion (λ line. line.session < 64) lines
     → AllByRecursion (IsLineSaid 65535) lines → AllByRecursion (IsLineSaid 64) lines

@@ -3,7 +3,6 @@ use Rattle.std.proofs.Common.{◌≡◌, ℕ, ◌<◌, ◌≤◌, Bool, true, fa
 use Rattle.std.specs.Prelude.{◌&&◌, ◌==◌, not, nat_le}
 use Rattle.std.specs.List.{All, AllByRecursion, filter, filter_map, cons_option, flat_map, list_all}
 use Rattle.std.proofs.lemmas.Bool.{leb-true}
-use Rattle.std.proofs.lemmas.Grind.{flat_map-append}
 use Rattle.std.proofs.lemmas.List.Elements.{All-contains, All-filter, All-from_recursion}
 use Rattle.redodb_names.specs.Names.{is_name, is_reserved}
 use Rattle.redodb_model.specs.Names.{Text, texts, is_visible}
@@ -12,8 +11,6 @@ use Rattle.redodb_model.specs.Reply.{Okay}
 use Rattle.redodb_model.specs.History.{Line, part_of}
 use Rattle.redodb_model.specs.Closing.{ClosesAfter, builds, held_in, holds, least, letting_go}
 use Rattle.redodb_model.proofs.Letting.{least_in}
-use Rattle.redodb_text.specs.Grammar.{with_names}
-use Rattle.redodb_text.proofs.ScriptParts.{with_names-append}
 use Rattle.redodb_text.proofs.Steps.{both}
 use Rattle.redodb_history.specs.Support.HistoryTexts.{IsLineSaid, IsSaid}
 use Rattle.redodb_history.proofs.CommandsSaid.{command_said, form_has_names}
@@ -21,24 +18,13 @@ use Rattle.redodb_history.proofs.KnownNames.{IsKnown, AreKnown, added_are_known,
 use Rattle.redodb_history.proofs.RecordedLines.{all_more}
 use Rattle.redodb_live.proofs.Lines.{all_both}
 use Rattle.redodb_live.specs.Lines.{names_after}
+use Rattle.redodb_dump.proofs.Pieces.{all_then}
+use Rattle.redodb_log.proofs.Grown.{all_parts, names_after-append, own_names}
 use Rattle.redodb_conversation.specs.Rounds.{Round, IsRound, IsAnswered, IsEnded, AreRounds, lines_in}
-
-abbrev pub own_names : Line Text → List Text
-own_names line = names_in line.command
 
 -- P is true of the names of each line
 abbrev pub OfNames : (Text → Type 0) → Line Text → Type 0
 OfNames P line = AllByRecursion P (own_names line)
-
-pub all_parts : {X : Type 0} (P : X → Type 0) (xs ys : List X) → AllByRecursion P (xs ++ ys)
-    → AllByRecursion P xs × AllByRecursion P ys
-all_parts P [] ys h = (tt, h)
-all_parts P (x ∷ xs) ys h = let rest = all_parts P xs ys h.1 in ((h.0, rest.0), rest.1)
-
-all_then : {X : Type 0} (P Q : X → Type 0) (xs : List X) → ((x : X) → P x → Q x)
-    → AllByRecursion P xs → AllByRecursion Q xs
-all_then P Q [] by h = tt
-all_then P Q (x ∷ xs) by h = (by x h.0, all_then P Q xs by h.1)
 
 one_kept : {X : Type 0} (P : X → Type 0) (b : Bool) (x : X) (xs : List X) → P x
     → AllByRecursion P xs → AllByRecursion P (cond b (x ∷ xs) xs)
@@ -148,12 +134,6 @@ closing_known : (names : List Text) (own lines : List (Line Text))
 closing_known names own lines known closes =
     closing_all (IsKnown names) (λ command. AreKnown names (names_in command))
     (known_to_close names) (λ command is. is) own lines known closes
-
--- the names of more lines come after those before
-pub names_after-append : (lines more : List (Line Text))
-    → names_after (lines ++ more) ≡ with_names (names_after lines) (flat_map own_names more)
-names_after-append lines more = ap (with_names []) (flat_map-append own_names lines more)
-    ∙ with_names-append [] (flat_map own_names lines) (flat_map own_names more)
 
 -- each name of the lines is among theirs
 pub names_known : (lines : List (Line Text))

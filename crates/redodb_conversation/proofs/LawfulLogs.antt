@@ -16,22 +16,15 @@ use Rattle.redodb_model.proofs.Unchanging.{changing_from-append, changing_legal}
 use Rattle.redodb_history.specs.Histories.{line_text_of}
 use Rattle.redodb_history.specs.Support.HistoryTexts.{IsLineSaid}
 use Rattle.redodb_history.proofs.DistinctNames.{few_known}
-use Rattle.redodb_history.proofs.HistoryReadsBack.{own_text_of}
 use Rattle.redodb_history.proofs.KnownNames.{IsKnown}
-use Rattle.redodb_history.proofs.TextCuts.{has_lf}
 use Rattle.redodb_live.specs.Lines.{lines_text_of, names_after}
 use Rattle.redodb_live.proofs.Lines.{all_both}
 use Rattle.redodb_log.specs.Logs.{Past, past_lines, head_of, AreLogged, IsLogOf, IsPast}
 use Rattle.redodb_log.specs.Operations.{IsPrefix}
 use Rattle.redodb_log.proofs.CutLogs.{IsCutLog, cut_behind}
-use Rattle.redodb_conversation.proofs.LawfulLines.{OfNames, own_names, all_parts, all_names, names_known}
-
-legal_parts : (st : State Text) (lines more : List (Line Text)) → LegalFrom texts st (lines ++ more)
-    → LegalFrom texts st lines × LegalFrom texts (left_by texts st lines) more
-legal_parts st [] more h = (tt, h)
-legal_parts st (line ∷ lines) more h =
-    let rest = legal_parts (after texts st line.session line.command) lines more h.1 in
-    ((h.0, rest.0), rest.1)
+use Rattle.redodb_log.proofs.Grown.{all_parts, legal_parts, own_names}
+use Rattle.redodb_log.proofs.Stepping.{text_has_lf}
+use Rattle.redodb_conversation.proofs.LawfulLines.{OfNames, all_names, names_known}
 
 one_changing : (P : Line Text → Type 0) (b : Bool) (line : Line Text) (lines : List (Line Text))
     → P line → AllByRecursion P lines → AllByRecursion P (cond b (line ∷ []) [] ++ lines)
@@ -133,12 +126,6 @@ whole_log past bytes lines is_past is e = record {
   parts = e ∙ sym (append-nil (head_of past ++ lines_text_of lines));
   free = contains_none 10;
 }
-
--- a line's text ends with a line feed
-text_has_lf : (line : Line Text) (rest : Text) → Contains (line_text_of line ++ rest) 10
-text_has_lf line rest =
-    let own = own_text_of line in
-    subst (λ (t : Text). Contains t 10) (sym (append_assoc own (10 ∷ []) rest)) (has_lf own rest 10)
 
 -- of two beginnings of a list one comes first
 first_of : {X : Type 0} (a b c d : List X) → a ++ b ≡ c ++ d

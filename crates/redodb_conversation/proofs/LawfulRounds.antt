@@ -1,6 +1,6 @@
 -- After one history, one line is answered in one way.
-use Rattle.std.proofs.Common.{◌≡◌, ◌≢◌, ◌⊎◌, ℕ, ◌+◌, List, [], ◌∷◌, ◌++◌, Some, length, refl, sym, ap, ◌∙◌, subst, inl, inr}
-use Rattle.std.specs.Prelude.{codes, decimal}
+use Rattle.std.proofs.Common.{◌≡◌, ◌≢◌, ℕ, ◌+◌, List, [], ◌∷◌, ◌++◌, Some, length, refl, sym, ap, ◌∙◌, subst, inl, inr}
+use Rattle.std.specs.Prelude.{decimal}
 use Rattle.std.specs.List.{AllByRecursion, flat_map}
 use Rattle.redodb_model.specs.Names.{Text, texts}
 use Rattle.redodb_model.specs.State.{State, Records, empty}
@@ -23,8 +23,9 @@ use Rattle.redodb_text.proofs.LineLaws.{one_command}
 use Rattle.redodb_history.specs.Histories.{line_text_of}
 use Rattle.redodb_live.specs.Answers.{Answer, Cause, Rows, Uses, Standing, IsAnswer, answer_line, inquiry_of, names_line}
 use Rattle.redodb_live.specs.Lines.{names_after}
-use Rattle.redodb_conversation.specs.Rounds.{Round, IsAnswered, IsEnded, IsInquired, IsListed, IsFaulty, Asks, HasNoSession, IsFaultWord, end_text_of, end_word, fault_text_of, names_word}
+use Rattle.redodb_conversation.specs.Rounds.{Round, IsAnswered, IsEnded, IsInquired, IsListed, IsFaulty, Asks, IsFaultWord, end_text_of, end_word, fault_text_of, names_word}
 use Rattle.redodb_conversation.specs.Support.Laws.{Agrees, AsksWhy, HasSufficed}
+use Rattle.redodb_conversation.specs.Support.Steps.{IsFaultLine}
 use Rattle.redodb_conversation.proofs.LawfulTexts.{asks_one, one_inquiry}
 
 -- what is closed after a session's own lines
@@ -183,10 +184,7 @@ one_fault before text u v p q =
 -- the cause of a fault's line
 abbrev pub FaultCause : List (Line Text) → Round → Type 0
 FaultCause before round =
-    (HasNoSession round.received × (round.output ≡ fault_text_of (codes "0") (codes "bad-session")))
-    ⊎ ((s : ℕ) × (text : Text) × (word : Text) × Asks round.received s text
-    × IsFaultWord (length before) (names_after before) text word
-    × (round.output ≡ fault_text_of (decimal (s + 1)) word))
+    IsFaultLine (length before) (names_after before) round.received round.output
 
 module _ (before : List (Line Text)) (a b : Round) (same : a.received ≡ b.received)
     (room : HasSufficed a) (room' : HasSufficed b)

@@ -1,5 +1,5 @@
 -- What the text of a line asks: one thing at most.
-use Rattle.std.proofs.Common.{◌≡◌, ◌≢◌, ℕ, ◌+◌, Bool, true, false, cond, List, [], ◌∷◌, ◌++◌, Some, None, length, refl, sym, ap, ◌∙◌, subst, append-nil, append_assoc, arith, ◌==◌}
+use Rattle.std.proofs.Common.{◌≡◌, ◌≢◌, ℕ, ◌+◌, Bool, true, false, cond, List, [], ◌∷◌, ◌++◌, Some, None, length, refl, sym, ap, ◌∙◌, subst, append-nil, arith, ◌==◌}
 use Rattle.std.specs.Prelude.{bytes_eq, codes, decimal, drop, is_some, not}
 use Rattle.std.specs.List.{flat_map}
 use Rattle.std.proofs.lemmas.Bool.{false≢true, ne_eqb}
@@ -21,11 +21,7 @@ use Rattle.redodb_history.proofs.CutOnce.{first_cut}
 use Rattle.redodb_history.proofs.FreeWords.{decimal_is_visible}
 use Rattle.redodb_history.proofs.HistoryLines.{number_is_without}
 use Rattle.redodb_conversation.specs.Rounds.{Asks, end_word, names_word}
-
-asks_at_space : (received : Text) (s : ℕ) (text : Text) → Asks received s text
-    → received ≡ decimal (s + 1) ++ 32 ∷ text
-asks_at_space received s text asks =
-    asks.1 ∙ append_assoc (decimal (s + 1)) (codes " ") text
+use Rattle.redodb_conversation.proofs.Asking.{asks_at_space}
 
 -- a line names one session and has one text
 pub asks_one : (received : Text) (s t : ℕ) (text other : Text) → Asks received s text
@@ -41,11 +37,11 @@ asks_one received s t text other p q =
     decimal_injective (s + 1) (t + 1) (omega arith) (omega arith) both.0 in
     (omega arith, both.1)
 
--- 1 for `end`, 2 for `names`, 3 for a question's word, else 0
+-- 1 for `end`, 3 for `names`, 2 for a question's word, else 0
 abbrev pub word_kind : Text → ℕ
 word_kind w =
     cond (bytes_eq w end_word) 1
-    (cond (bytes_eq w names_word) 2 (cond (is_some (inquiry_named w)) 3 0))
+    (cond (bytes_eq w names_word) 3 (cond (is_some (inquiry_named w)) 2 0))
 
 abbrev pub second_kind : List Text → ℕ
 second_kind [] = 4
@@ -56,8 +52,8 @@ second_kind (n ∷ w ∷ ws) = word_kind w
 abbrev pub received_kind : Text → ℕ
 received_kind received = second_kind (words_of received)
 
-pub kind_of_first : (received : Text) (s : ℕ) (text w : Text) (ws : List Text) → Asks received s text
-    → words_of text ≡ w ∷ ws → received_kind received ≡ word_kind w
+pub kind_of_first : (received : Text) (s : ℕ) (text w : Text) (ws : List Text)
+    → Asks received s text → words_of text ≡ w ∷ ws → received_kind received ≡ word_kind w
 kind_of_first received s text w ws asks e =
     let few = asks.0 in
     let number = decimal (s + 1) in
@@ -130,12 +126,10 @@ command_asks_nothing text command e =
     ap inquiry_in is.words_are ∙ is.asks_nothing
 
 inquiry_word_is : (inquiry : Inquiry) → IsVisible (inquiry_word inquiry)
-    × (word_kind (inquiry_word inquiry) ≡ 3)
+    × (word_kind (inquiry_word inquiry) ≡ 2)
     × (inquiry_named (inquiry_word inquiry) ≡ Some inquiry)
 inquiry_word_is inquiries.Why = (refl, refl, refl)
-inquiry_word_is inquiries.Deps = (refl, refl, refl)
-inquiry_word_is inquiries.Users = (refl, refl, refl)
-inquiry_word_is inquiries.State = (refl, refl, refl)
+inquiry_word_is inquiry = (refl, refl, refl)
 
 -- the words of a question
 pub inquiry_words : (inquiry : Inquiry) (name : Text)
@@ -143,7 +137,7 @@ pub inquiry_words : (inquiry : Inquiry) (name : Text)
 inquiry_words inquiry name =
     words_of-first (inquiry_word inquiry) (name ++ []) (inquiry_word_is inquiry).0
 
-pub inquiry_kind : (inquiry : Inquiry) → word_kind (inquiry_word inquiry) ≡ 3
+pub inquiry_kind : (inquiry : Inquiry) → word_kind (inquiry_word inquiry) ≡ 2
 inquiry_kind inquiry = (inquiry_word_is inquiry).1
 
 pub inquiry_is : (inquiry : Inquiry) (name : Text)

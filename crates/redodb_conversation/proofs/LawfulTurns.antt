@@ -1,5 +1,5 @@
 -- After one history, the same lines are answered in the same way.
-use Rattle.std.proofs.Common.{◌≡◌, ◌⊎◌, ℕ, ◌≤◌, List, [], ◌∷◌, ◌++◌, Some, None, length, map, refl, sym, ap, ◌∙◌, subst, inl, inr}
+use Rattle.std.proofs.Common.{◌≡◌, ◌⊎◌, ℕ, suc, ◌≤◌, List, [], ◌∷◌, ◌++◌, Some, None, length, map, refl, sym, ap, ◌∙◌, subst, inl, inr}
 use Rattle.std.specs.List.{AllByRecursion}
 use Rattle.redodb_model.specs.Names.{Text}
 use Rattle.redodb_model.specs.Command.{names_in}
@@ -11,7 +11,7 @@ use Rattle.redodb_text.proofs.Inquired.{asked_of_command}
 use Rattle.redodb_live.specs.Lines.{names_after}
 use Rattle.redodb_conversation.specs.Rounds.{Round, IsRound, IsAnswered, IsEnded, IsInquired, IsListed, IsFaulty, AreRounds, Asks, end_word, names_word}
 use Rattle.redodb_conversation.specs.Support.Laws.{Agree, Agrees, AsksWhy, HasSufficed}
-use Rattle.redodb_conversation.proofs.LawfulLines.{names_after-append}
+use Rattle.redodb_log.proofs.Grown.{names_after-append}
 use Rattle.redodb_conversation.proofs.LawfulRounds.{answered_agree, ended_agree, inquired_agree, listed_agree, faulty_agree, has_fault, HasFault, FaultCause}
 use Rattle.redodb_conversation.proofs.LawfulTexts.{asks_one, command_asks_nothing, command_keyword, received_kind, inquiry_asked, inquiry_kind, inquiry_words, kind_of_first}
 
@@ -23,6 +23,11 @@ record IsFine (before : List (Line Text)) (received : Text) (kind : ℕ) : Type 
   pub kind_is : received_kind received ≡ kind
   pub fine : (text ≡ end_word) ⊎ ((text ≡ names_word)
       ⊎ (asked_fault 16777216 (names_after before) text ≡ None))
+
+-- which alternative holds, if those after the first have numbers
+abbrev later : {A B : Type 0} → (B → ℕ) → A ⊎ B → ℕ
+later number (inl a) = 0
+later number (inr b) = suc (number b)
 
 module _ (before : List (Line Text)) (round : Round) where
   answered_fine : IsAnswered before round → IsFine before round.received 0
@@ -37,11 +42,12 @@ module _ (before : List (Line Text)) (round : Round) where
         session = line.session;
         text = is.text;
         asks = is.asks;
-        kind_is = kind_of_first round.received line.session is.text keyword.word keyword.words is.asks
-            keyword.words_are ∙ keyword.kind;
+        kind_is = kind_of_first round.received line.session is.text keyword.word keyword.words
+            is.asks keyword.words_are ∙ keyword.kind;
         fine = inr (inr (asked_of_command 16777216 names is.text
             (command_asks_nothing is.text line.command is.parsed.2)
-            ∙ no_fault_in_a_line {most = 16777216} names is.text line.command after is.parsed (refl, few)));
+            ∙ no_fault_in_a_line {most = 16777216} names is.text line.command after is.parsed
+            (refl, few)));
       }
 
   ended_fine : IsEnded before round → IsFine before round.received 1
@@ -53,7 +59,7 @@ module _ (before : List (Line Text)) (round : Round) where
     fine = inl refl;
   }
 
-  listed_fine : IsListed before round → IsFine before round.received 2
+  listed_fine : IsListed before round → IsFine before round.received 3
   listed_fine is = record {
     session = is.session;
     text = names_word;
@@ -62,7 +68,7 @@ module _ (before : List (Line Text)) (round : Round) where
     fine = inr (inl refl);
   }
 
-  inquired_fine : IsInquired before round → IsFine before round.received 3
+  inquired_fine : IsInquired before round → IsFine before round.received 2
   inquired_fine is =
       let text = inquiry_text_of is.inquiry is.name in
       record {
@@ -97,68 +103,45 @@ module _ (before : List (Line Text)) (round : Round) where
           fails text word (has_fault before round s text word room e found)
           (asks_one round.received fine.session s fine.text text fine.asks asks).1
 
+  -- which of the five it is
+  abbrev kind_in : IsRound before round → ℕ
+  kind_in = later (later (later (later (λ is. 0))))
+
+  fine_or_faulty : (is : IsRound before round) → IsFine before round.received (kind_in is)
+      ⊎ (IsFaulty before round × (kind_in is ≡ 4))
+  fine_or_faulty (inl is) = inl (answered_fine is)
+  fine_or_faulty (inr (inl is)) = inl (ended_fine is)
+  fine_or_faulty (inr (inr (inl is))) = inl (inquired_fine is)
+  fine_or_faulty (inr (inr (inr (inl is)))) = inl (listed_fine is)
+  fine_or_faulty (inr (inr (inr (inr is)))) = inr (is, refl)
+
 module _ (before : List (Line Text)) (a b : Round) (same : a.received ≡ b.received)
     (room : HasSufficed a) (room' : HasSufficed b)
   where
-    unlike : (m n : ℕ) → IsFine before a.received m → IsFine before b.received n → m ≡ n
-    unlike m n p q = sym p.kind_is ∙ ap received_kind same ∙ q.kind_is
+    same_kind : (m n : ℕ) → IsFine before a.received m ⊎ (IsFaulty before a × (m ≡ 4))
+        → IsFine before b.received n ⊎ (IsFaulty before b × (n ≡ 4)) → m ≡ n
+    same_kind m n (inl p) (inl q) = sym p.kind_is ∙ ap received_kind same ∙ q.kind_is
+    same_kind m n (inl p) (inr (q, e)) =
+        absurd (faulty_not_fine before b m q room' (subst (λ h. IsFine before h m) same p))
+    same_kind m n (inr (p, e)) (inl q) =
+        absurd (faulty_not_fine before a n p room (subst (λ h. IsFine before h n) (sym same) q))
+    same_kind m n (inr (p, e)) (inr (q, f)) = e ∙ sym f
 
-    fails_first : (kind : ℕ) → IsFaulty before a → IsFine before b.received kind → ⊥
-    fails_first kind p q =
-        faulty_not_fine before a kind p room (subst (λ h. IsFine before h kind) (sym same) q)
-
-    fails_second : (kind : ℕ) → IsFine before a.received kind → IsFaulty before b → ⊥
-    fails_second kind p q =
-        faulty_not_fine before b kind q room' (subst (λ h. IsFine before h kind) same p)
+    kinds_agree : (p : IsRound before a) (q : IsRound before b)
+        → kind_in before a p ≡ kind_in before b q → Agrees a b
+    kinds_agree (inl p) (inl q) e = answered_agree before a b same p q
+    kinds_agree (inr (inl p)) (inr (inl q)) e = ended_agree before a b same p q
+    kinds_agree (inr (inr (inl p))) (inr (inr (inl q))) e = inquired_agree before a b same p q
+    kinds_agree (inr (inr (inr (inl p)))) (inr (inr (inr (inl q)))) e =
+        listed_agree before a b same p q
+    kinds_agree (inr (inr (inr (inr p)))) (inr (inr (inr (inr q)))) e =
+        faulty_agree before a b same room room' p q
+    kinds_agree p q e = absurd cc
 
     round_agrees : IsRound before a → IsRound before b → Agrees a b
-    round_agrees (inl p) (inl q) = answered_agree before a b same p q
-    round_agrees (inr (inl p)) (inr (inl q)) = ended_agree before a b same p q
-    round_agrees (inr (inr (inl p))) (inr (inr (inl q))) = inquired_agree before a b same p q
-    round_agrees (inr (inr (inr (inl p)))) (inr (inr (inr (inl q)))) =
-        listed_agree before a b same p q
-    round_agrees (inr (inr (inr (inr p)))) (inr (inr (inr (inr q)))) =
-        faulty_agree before a b same room room' p q
-    round_agrees (inl p) (inr (inl q)) =
-        absurd (let e = unlike 0 1 (answered_fine before a p) (ended_fine before b q) in cc)
-    round_agrees (inl p) (inr (inr (inl q))) =
-        absurd (let e = unlike 0 3 (answered_fine before a p) (inquired_fine before b q) in cc)
-    round_agrees (inl p) (inr (inr (inr (inl q)))) =
-        absurd (let e = unlike 0 2 (answered_fine before a p) (listed_fine before b q) in cc)
-    round_agrees (inl p) (inr (inr (inr (inr q)))) =
-        absurd (fails_second 0 (answered_fine before a p) q)
-    round_agrees (inr (inl p)) (inl q) =
-        absurd (let e = unlike 1 0 (ended_fine before a p) (answered_fine before b q) in cc)
-    round_agrees (inr (inl p)) (inr (inr (inl q))) =
-        absurd (let e = unlike 1 3 (ended_fine before a p) (inquired_fine before b q) in cc)
-    round_agrees (inr (inl p)) (inr (inr (inr (inl q)))) =
-        absurd (let e = unlike 1 2 (ended_fine before a p) (listed_fine before b q) in cc)
-    round_agrees (inr (inl p)) (inr (inr (inr (inr q)))) =
-        absurd (fails_second 1 (ended_fine before a p) q)
-    round_agrees (inr (inr (inl p))) (inl q) =
-        absurd (let e = unlike 3 0 (inquired_fine before a p) (answered_fine before b q) in cc)
-    round_agrees (inr (inr (inl p))) (inr (inl q)) =
-        absurd (let e = unlike 3 1 (inquired_fine before a p) (ended_fine before b q) in cc)
-    round_agrees (inr (inr (inl p))) (inr (inr (inr (inl q)))) =
-        absurd (let e = unlike 3 2 (inquired_fine before a p) (listed_fine before b q) in cc)
-    round_agrees (inr (inr (inl p))) (inr (inr (inr (inr q)))) =
-        absurd (fails_second 3 (inquired_fine before a p) q)
-    round_agrees (inr (inr (inr (inl p)))) (inl q) =
-        absurd (let e = unlike 2 0 (listed_fine before a p) (answered_fine before b q) in cc)
-    round_agrees (inr (inr (inr (inl p)))) (inr (inl q)) =
-        absurd (let e = unlike 2 1 (listed_fine before a p) (ended_fine before b q) in cc)
-    round_agrees (inr (inr (inr (inl p)))) (inr (inr (inl q))) =
-        absurd (let e = unlike 2 3 (listed_fine before a p) (inquired_fine before b q) in cc)
-    round_agrees (inr (inr (inr (inl p)))) (inr (inr (inr (inr q)))) =
-        absurd (fails_second 2 (listed_fine before a p) q)
-    round_agrees (inr (inr (inr (inr p)))) (inl q) =
-        absurd (fails_first 0 p (answered_fine before b q))
-    round_agrees (inr (inr (inr (inr p)))) (inr (inl q)) =
-        absurd (fails_first 1 p (ended_fine before b q))
-    round_agrees (inr (inr (inr (inr p)))) (inr (inr (inl q))) =
-        absurd (fails_first 3 p (inquired_fine before b q))
-    round_agrees (inr (inr (inr (inr p)))) (inr (inr (inr (inl q)))) =
-        absurd (fails_first 2 p (listed_fine before b q))
+    round_agrees p q =
+        kinds_agree p q (same_kind (kind_in before a p) (kind_in before b q)
+        (fine_or_faulty before a p) (fine_or_faulty before b q))
 
 abbrev all_received : List Round → List Text
 all_received rounds = map (λ (round : Round). round.received) rounds

@@ -1,6 +1,5 @@
 -- Steps from the state after a history are rounds after that history.
-use Rattle.std.proofs.Common.{◌≡◌, ◌⊎◌, ℕ, ◌+◌, ◌≤◌, Bool, true, false, cond, List, [], ◌∷◌, ◌++◌, length, refl, sym, ap, ◌∙◌, subst, append-nil, append_assoc, length-append, inl, inr, arith}
-use Rattle.std.specs.Prelude.{codes, decimal}
+use Rattle.std.proofs.Common.{◌≡◌, ℕ, ◌≤◌, Bool, true, false, cond, List, [], ◌∷◌, ◌++◌, length, refl, sym, ap, ◌∙◌, subst, append-nil, append_assoc, length-append, inl, inr, arith}
 use Rattle.std.specs.List.{AllByRecursion, flat_map}
 use Rattle.std.specs.Cmp.Lexicographic.{nat_list_cmp_total}
 use Rattle.std.proofs.lemmas.List.Concat.{flat_map-append}
@@ -21,8 +20,8 @@ use Rattle.redodb_text.proofs.ScriptParts.{with_names-append}
 use Rattle.redodb_history.proofs.KnownNames.{AreKnown, with_names-known}
 use Rattle.redodb_live.specs.Answers.{AnswersInquiry, names_line}
 use Rattle.redodb_live.specs.Lines.{names_after}
-use Rattle.redodb_conversation.specs.Rounds.{Round, IsRound, IsAnswered, IsEnded, IsInquired, IsListed, IsFaulty, AreRounds, lines_in, IsFaultWord, Asks, fault_text_of, HasNoSession}
-use Rattle.redodb_conversation.specs.Support.Steps.{Known, LeadsTo, Answering, Ending, Inquiring, Listing, Refusing, IsStep, AreSteps}
+use Rattle.redodb_conversation.specs.Rounds.{Round, IsRound, IsAnswered, IsEnded, IsInquired, IsListed, IsFaulty, AreRounds, lines_in, IsFaultWord}
+use Rattle.redodb_conversation.specs.Support.Steps.{Known, LeadsTo, Answering, Ending, Inquiring, Listing, IsFaultLine, Refusing, IsStep, AreSteps}
 
 -- the names after more lines
 names_more : (before more : List (Line Text)) → names_after (before ++ more)
@@ -132,16 +131,8 @@ module _ (before : List (Line Text)) (old new : Known) (round : Round) (led : Le
     refusing_round : Refusing old new round → IsFaulty before round
     refusing_round step = record { none = step.none; cause = cause step.cause }
       where
-        cause : (HasNoSession round.received
-            × (round.output ≡ fault_text_of (codes "0") (codes "bad-session")))
-            ⊎ ((s : ℕ) × (text : Text) × (word : Text) × Asks round.received s text
-            × IsFaultWord old.calls old.names text word
-            × (round.output ≡ fault_text_of (decimal (s + 1)) word))
-            → (HasNoSession round.received
-            × (round.output ≡ fault_text_of (codes "0") (codes "bad-session")))
-            ⊎ ((s : ℕ) × (text : Text) × (word : Text) × Asks round.received s text
-            × IsFaultWord (length before) (names_after before) text word
-            × (round.output ≡ fault_text_of (decimal (s + 1)) word))
+        cause : IsFaultLine old.calls old.names round.received round.output
+            → IsFaultLine (length before) (names_after before) round.received round.output
         cause (inl none) = inl none
         cause (inr (s, text, word, asks, is, output)) =
             inr (

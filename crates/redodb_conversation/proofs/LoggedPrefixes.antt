@@ -1,15 +1,15 @@
 -- What a round logs is a prefix of its answer.
 use Rattle.std.proofs.Common.{◌≡◌, Bool, true, false, cond, [], ◌∷◌, ◌++◌, refl, sym, ap, ◌∙◌, append-nil, inl, inr}
-use Rattle.redodb_model.specs.Names.{Text, texts}
+use Rattle.redodb_model.specs.Names.{Text}
 use Rattle.redodb_model.specs.History.{Line}
-use Rattle.redodb_model.specs.Changes.{changes, changing_from}
+use Rattle.redodb_model.specs.Changes.{changes}
 use Rattle.redodb_history.specs.Histories.{line_text_of}
 use Rattle.redodb_live.specs.Lines.{lines_text_of}
 use Rattle.redodb_conversation.specs.Rounds.{Round, end_text_of}
 use Rattle.redodb_conversation.specs.Logs.{logged_of}
 use Rattle.redodb_conversation.specs.Support.Replies.{LogsPrefix}
 use Rattle.redodb_conversation.specs.Support.Steps.{Known, Answering, Ending, IsStep}
-use Rattle.redodb_conversation.proofs.Steps.{closing_changes}
+use Rattle.redodb_conversation.proofs.Steps.{all_change}
 
 one_prefix : (line : Line Text) (b : Bool)
     → (rest : Text) × (line_text_of line ≡ lines_text_of (cond b (line ∷ []) [] ++ []) ++ rest)
@@ -28,13 +28,11 @@ answering_prefix old new round is =
 
 ending_prefix : (old new : Known) (round : Round) → Ending old new round
     → LogsPrefix old.state round
-ending_prefix old new round is =
-    let all : changing_from texts old.state round.lines ≡ round.lines =
-    ap (changing_from texts old.state) is.lines_are
-    ∙ closing_changes is.session old.state is.held old.state ∙ sym is.lines_are in (
-      end_text_of is.session,
-      is.output_is ∙ ap (λ ls. lines_text_of ls ++ end_text_of is.session) (sym all),
-    )
+ending_prefix old new round is = (
+  end_text_of is.session,
+  is.output_is ∙ ap (λ ls. lines_text_of ls ++ end_text_of is.session)
+      (sym (all_change old.state is.session is.held round.lines is.lines_are)),
+)
 
 -- if no line was made nothing is logged
 none_prefix : (old : Known) (round : Round) → round.lines ≡ [] → LogsPrefix old.state round

@@ -8,8 +8,8 @@ use Rattle.std.proofs.lemmas.List.{take_all, length-take-le, take-append-drop}
 use Rattle.redodb_model.specs.Names.{Text}
 use Rattle.redodb_text.specs.Inquiries.{inquiry_text_of}
 use Rattle.redodb_text.proofs.Inquired.{asked_when_long, fits_is_short}
-use Rattle.redodb_conversation.specs.Rounds.{Round, Asks, HasNoSession, IsFaultWord, end_word, names_word, fault_text_of}
-use Rattle.redodb_conversation.specs.Support.Steps.{Known, Refusing, IsStep}
+use Rattle.redodb_conversation.specs.Rounds.{Round, Asks, IsFaultWord, end_word, names_word}
+use Rattle.redodb_conversation.specs.Support.Steps.{Known, Refusing, IsStep, IsFaultLine}
 use Rattle.redodb_conversation.specs.Support.KeptLines.{kept_of}
 use Rattle.redodb_conversation.proofs.LongQuestions.{no_question_in_more}
 
@@ -78,7 +78,8 @@ fault_of_more calls names text more word long (inr (inr (other, another, none, e
       worn,
     ))
 
-module _ (old new : Known) (round : Round) (whole : Text) (received : round.received ≡ kept_of whole)
+module _ (old new : Known) (round : Round) (whole : Text)
+    (received : round.received ≡ kept_of whole)
   where
     module _ (long : length round.received ≡ 8199) where
       refusing_whole : Refusing old new round → Refusing old new (record round { received = whole })
@@ -88,16 +89,8 @@ module _ (old new : Known) (round : Round) (whole : Text) (received : round.rece
         cause = cause step.cause;
       }
         where
-          cause : (HasNoSession round.received
-              × (round.output ≡ fault_text_of (codes "0") (codes "bad-session")))
-              ⊎ ((s : ℕ) × (text : Text) × (word : Text) × Asks round.received s text
-              × IsFaultWord old.calls old.names text word
-              × (round.output ≡ fault_text_of (decimal (s + 1)) word))
-              → (HasNoSession whole
-              × (round.output ≡ fault_text_of (codes "0") (codes "bad-session")))
-              ⊎ ((s : ℕ) × (text : Text) × (word : Text) × Asks whole s text
-              × IsFaultWord old.calls old.names text word
-              × (round.output ≡ fault_text_of (decimal (s + 1)) word))
+          cause : IsFaultLine old.calls old.names round.received round.output
+              → IsFaultLine old.calls old.names whole round.output
           cause (inl (none, output)) =
               inl (
                 (λ s text asks. none s (take (8199 - length (prefix_of s)) text)
@@ -135,7 +128,11 @@ module _ (old new : Known) (round : Round) (whole : Text) (received : round.rece
             long,
           ))
       long_step (inr (inr (inr (inl step)))) =
-          absurd (omega (arith, asked_length round.received step.session names_word step.asks, long))
+          absurd (omega (
+            arith,
+            asked_length round.received step.session names_word step.asks,
+            long,
+          ))
       long_step (inr (inr (inr (inr step)))) = inr (inr (inr (inr (refusing_whole step))))
 
     -- the answer to what is kept of a line is the answer to the line

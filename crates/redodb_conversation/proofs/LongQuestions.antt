@@ -13,8 +13,9 @@ use Rattle.redodb_text.specs.Questions.{words_of}
 use Rattle.redodb_text.specs.declared.inquiries.Inquiry.{Inquiry}
 use Rattle.redodb_text.specs.declared.inquiries.Inquiry.TheVariants.{Why, Deps, Users, State}
 use Rattle.redodb_text.proofs.FirstWords.{some_word}
-use Rattle.redodb_text.proofs.Spaced.{IsVisible, line_is_spaced, words_of-first}
+use Rattle.redodb_text.proofs.Spaced.{line_is_spaced, words_of-first}
 use Rattle.redodb_text.proofs.Steps.{found_passes}
+use Rattle.redodb_live.proofs.OneAnswer.{asked_visible}
 
 abbrev inquiries : List Inquiry
 inquiries = Why ∷ Deps ∷ Users ∷ State ∷ []
@@ -22,21 +23,11 @@ inquiries = Why ∷ Deps ∷ Users ∷ State ∷ []
 -- a question's word is short and visible, and names the question
 short_word : (inquiry : Inquiry) → length (inquiry_word inquiry) ≤ 5
 short_word Why = omega arith
-short_word Deps = omega arith
-short_word Users = omega arith
-short_word State = omega arith
-
-visible_word : (inquiry : Inquiry) → IsVisible (inquiry_word inquiry)
-visible_word Why = refl
-visible_word Deps = refl
-visible_word Users = refl
-visible_word State = refl
+short_word inquiry = omega arith
 
 named_by_word : (inquiry : Inquiry) → inquiry_named (inquiry_word inquiry) ≡ Some inquiry
 named_by_word Why = refl
-named_by_word Deps = refl
-named_by_word Users = refl
-named_by_word State = refl
+named_by_word inquiry = refl
 
 word_is : (word : Text) (inquiry : Inquiry) → inquiry_named word ≡ Some inquiry
     → word ≡ inquiry_word inquiry
@@ -81,7 +72,7 @@ same_question text more inquiry long e =
     (omega (arith, length-append word (32 ∷ []), short_word inquiry)) in
     let after = drop (length front) text in
     ap inquiry_in (ap words_of (begins ∙ append_assoc word (32 ∷ []) after)
-    ∙ words_of-first word after (visible_word inquiry))
+    ∙ words_of-first word after (asked_visible inquiry))
     ∙ named_by_word inquiry
 
 -- a long text that is no question is none with more

@@ -9,7 +9,8 @@ use Rattle.redodb_live.specs.Lines.{lines_text_of}
 use Rattle.redodb_log.specs.Logs.{Past, past_lines, head_of, log_header, AreLogged, IsPast}
 use Rattle.redodb_log.specs.Operations.{IsPrefix}
 use Rattle.redodb_conversation.specs.Rounds.{lines_in}
-use Rattle.redodb_conversation.specs.Support.LeftBy.{IsLeftBy}
+use Rattle.redodb_conversation.specs.Support.Places.{known_of}
+use Rattle.redodb_conversation.specs.Support.Steps.{LeadsTo}
 use Rattle.redodb_conversation.specs.Support.Opening.{AreKept, IsKeptFrom, EndsAll, IsOpenedFrom}
 use Rattle.redodb_conversation.specs.declared.opening.Kept.{Kept}
 use Rattle.redodb_conversation.specs.declared.opening.Opened.{Opened}
@@ -22,7 +23,7 @@ IsHeaderIfNone size logged =
 -- a dump that can take the place of any lines that left this
 abbrev pub IsDumpOf : LiveState → Text → Type 0
 IsDumpOf live dump =
-    (before : List (Line Text)) → AreLogged before → IsLeftBy live before
+    (before : List (Line Text)) → AreLogged before → LeadsTo before (known_of live)
     → IsPast (Some before) × (dump ≡ head_of (Some before))
 
 some_then : {T : Type 0} (o : Option T) (P Q : T → Type 0) → ((t : T) → P t → Q t)

@@ -16,7 +16,8 @@ use Rattle.redodb_log.specs.declared.restoring.Restored.{Restored}
 use Rattle.redodb_log.specs.declared.restoring.RestoreFault.{RestoreFault}
 use Rattle.redodb_log.specs.declared.restoring.RestoreFault.TheVariants.{Memory, Worn, State, Differs}
 use Rattle.redodb_log.proofs.Dumped.{has_past}
-use Rattle.redodb_conversation.specs.Support.LeftBy.{IsLeftBy}
+use Rattle.redodb_conversation.specs.Support.Places.{known_of}
+use Rattle.redodb_conversation.specs.Support.Steps.{LeadsTo}
 use Rattle.redodb_conversation.specs.Support.Opening.{IsRest, IsKeptFrom, IsOpenCause, unrestored}
 use Rattle.redodb_conversation.specs.declared.opening.Rest.{Rest}
 use Rattle.redodb_conversation.specs.declared.opening.Rest.TheVariants.{Nothing, Torn, Damaged}
@@ -60,7 +61,7 @@ no_lines : AreLogged []
 no_lines = record { legal = tt; said = tt; few_names = omega arith }
 
 left_of : (live : LiveState) (lines : List (Line Text)) → AreLogged lines
-    → restores.IsLeftBy lines live → IsLeftBy live lines
+    → restores.IsLeftBy lines live → LeadsTo lines (known_of live)
 left_of live lines logged left = record {
   legal = logged.legal;
   names_are = left.names;

@@ -25,15 +25,6 @@ pub ok_by_three : {T E : Type 0} (r : Result T E) (P Q R Z : Type 0) → OnOk r 
 ok_by_three (Ok x) P Q R Z p q t f = f p q t
 ok_by_three (Err e) P Q R Z p q t f = tt
 
-pub ok_by_four : {T E : Type 0} (r : Result T E) (P Q R S Z : Type 0) → OnOk r P → OnOk r Q
-    → OnOk r R → OnOk r S → (P → Q → R → S → Z) → OnOk r Z
-ok_by_four (Ok x) P Q R S Z p q t s f = f p q t s
-ok_by_four (Err e) P Q R S Z p q t s f = tt
-
-pub any_err : {T E : Type 0} (r : Result T E) (P : E → Type 0) → ((e : E) → P e) → IfErr r P
-any_err (Ok x) P f = tt
-any_err (Err e) P f = f e
-
 pub if_err_then : {T E : Type 0} (r : Result T E) (P Q : E → Type 0) → IfErr r P
     → ((e : E) → P e → Q e) → IfErr r Q
 if_err_then (Ok x) P Q p f = tt

@@ -9,14 +9,14 @@ use Rattle.redodb_log.specs.Operations.{Operation, Replace, LogFailed, IsAlways,
 use Rattle.redodb_conversation.specs.Rounds.{Round, received_in}
 use Rattle.redodb_conversation.specs.Talks.{AreLines, IsLogAfter, history_of, lines_after, output_of}
 use Rattle.std.specs.Io.KnownBytes.{Consumes}
-use Rattle.redodb_conversation.specs.Support.LeftBy.{IsLeftBy}
 use Rattle.redodb_conversation.specs.Support.Moments.{Start, Moment, IsBrokenOff, IsSafe, IsUnderWay, known_first}
 use Rattle.redodb_conversation.specs.Support.Places.{BreaksOff, GoesOn, idle_place, known_of, moment_at}
 use Rattle.redodb_conversation.specs.Support.Steps.{AreSteps, LeadsTo}
 use Rattle.redodb_conversation.specs.Support.Talking.{nothing}
 use Rattle.redodb_conversation.proofs.LawfulLines.{rounds_said, rounds_names}
 use Rattle.redodb_conversation.proofs.Led.{steps_are_rounds, steps_lead}
-use Rattle.redodb_conversation.proofs.Moments.{begins_more, log_failed_safe, output_more, prefix_of_either, prefix_of_same, prefix_self}
+use Rattle.redodb_conversation.proofs.UnderWay.{output_whole}
+use Rattle.redodb_conversation.proofs.Moments.{begins_more, log_failed_safe, prefix_of_either, prefix_of_same, prefix_self}
 use Rattle.redodb_conversation.proofs.OpeningEnds.{IsDumpOf}
 use Rattle.redodb_conversation.proofs.WholeOperations.{always_whole}
 
@@ -40,14 +40,6 @@ module _ (start : Start) (live : LiveState) (left : Option Text) (done : List Op
         led = steps_lead (history_of start.former) (known_first start) now.known rounds
             way.is_start.led way.steps
 
-        left_by_lines : IsLeftBy live lines
-        left_by_lines = record {
-          legal = led.legal;
-          names_are = led.names_are;
-          state_is = led.state_is;
-          few_calls = led.few_calls;
-        }
-
         lines_logged : AreLogged lines
         lines_logged =
             let history = history_of start.former in
@@ -69,15 +61,14 @@ module _ (start : Start) (live : LiveState) (left : Option Text) (done : List Op
           since = [];
           parts = sym (append-nil rounds);
           base = dump;
-          is_base = inr (is_dump lines lines_logged left_by_lines);
+          is_base = inr (is_dump lines lines_logged led);
           log_is = sym (append-nil dump);
         }
 
         written : written_by done ≡ output_of start.version start.former rounds
         written =
             way.output ∙ sym (append-nil (output_of start.version start.former way.sent))
-            ∙ ap (λ t. output_of start.version start.former way.sent ++ t) (sym way.to_write)
-            ∙ sym (output_more start.version start.former way.sent way.kept)
+            ∙ sym (output_whole start now nothing more way)
 
         safe : IsSafe start rounds replaced
         safe = inr (record {
@@ -146,14 +137,9 @@ replaced_if b dump done done_after is e =
     e ∙ ap (λ x. if x then Replace dump ∷ done else done) is
 
 -- whatever was asked and read
-module _ (live : LiveState) (done done_after : List Operation) where
-  pub idle_goes_on : done_after ≡ done → (sync : Bool) (more : Text)
-      → GoesOn sync (idle_place live done) (idle_place live done_after) more more
-  idle_goes_on e sync more start left same talk =
-      subst (λ ops. IsUnderWay start (moment_at (idle_place live ops) left) nothing more) (sym e)
-      talk
-
-  module _ (dump : Text) (is_dump : IsDumpOf live dump) where
+module _ (live : LiveState) (done done_after : List Operation) (dump : Text)
+    (is_dump : IsDumpOf live dump)
+  where
     pub replaced_goes_on : done_after ≡ Replace dump ∷ done → (sync : Bool) (more : Text)
         → GoesOn sync (idle_place live done) (idle_place live done_after) more more
     replaced_goes_on e sync more start left same talk =

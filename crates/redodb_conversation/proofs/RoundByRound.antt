@@ -1,13 +1,13 @@
 -- One round more after rounds: what is known then, and what they log.
-use Rattle.std.proofs.Common.{◌≡◌, List, [], ◌∷◌, ◌++◌, refl, sym, ap, ◌∙◌, subst, append-nil, append_assoc, inl, inr, cond}
+use Rattle.std.proofs.Common.{◌≡◌, List, [], ◌∷◌, ◌++◌, refl, sym, ap, ◌∙◌, subst, append-nil, append_assoc, inl, inr}
 use Rattle.std.specs.List.{flat_map}
 use Rattle.std.proofs.lemmas.List.Concat.{flat_map-append}
 use Rattle.redodb_model.specs.Names.{Text, texts}
 use Rattle.redodb_model.specs.State.{State}
 use Rattle.redodb_model.specs.History.{Line, left_by}
-use Rattle.redodb_model.specs.Changes.{changes, changing_from}
-use Rattle.redodb_model.specs.Step.{after}
+use Rattle.redodb_model.specs.Changes.{changing_from}
 use Rattle.redodb_model.proofs.OneMore.{left_by-append}
+use Rattle.redodb_model.proofs.Unchanging.{changing_from-append}
 use Rattle.redodb_history.specs.Histories.{line_text_of}
 use Rattle.redodb_live.specs.Lines.{lines_text_of}
 use Rattle.redodb_conversation.specs.Rounds.{Round, lines_in}
@@ -43,21 +43,10 @@ steps_state old new (round ∷ rounds) (middle, step, steps) =
     ∙ ap (λ st. left_by texts st (lines_in rounds)) (step_state old middle round step)
     ∙ sym (left_by-append texts old.state round.lines (lines_in rounds))
 
-changing-append : (st : State Text) (lines more : List (Line Text))
-    → changing_from texts st (lines ++ more)
-    ≡ changing_from texts st lines ++ changing_from texts (left_by texts st lines) more
-changing-append st [] more = refl
-changing-append st (line ∷ lines) more =
-    let one = cond (changes st.records line.command line.reply) (line ∷ []) [] in
-    let next = after texts st line.session line.command in
-    ap (λ ls. one ++ ls) (changing-append next lines more)
-    ∙ sym (append_assoc one (changing_from texts next lines)
-    (changing_from texts (left_by texts next lines) more))
-
 pub logged-append : (st : State Text) (lines more : List (Line Text)) → logged_of st (lines ++ more)
     ≡ logged_of st lines ++ logged_of (left_by texts st lines) more
 logged-append st lines more =
-    ap lines_text_of (changing-append st lines more)
+    ap lines_text_of (changing_from-append texts st lines more)
     ∙ flat_map-append line_text_of (changing_from texts st lines)
     (changing_from texts (left_by texts st lines) more)
 

@@ -1,7 +1,6 @@
 -- The answer to a line, if it fits.
-use Rattle.std.proofs.Common.{◌≡◌, ◌⊎◌, ℕ, ◌+◌, Bool, cond, List, [], ◌∷◌, ◌++◌, refl, sym, ap, ◌∙◌, subst, append-nil, inl, inr, length, Some, None}
+use Rattle.std.proofs.Common.{◌≡◌, ℕ, ◌+◌, Bool, cond, [], ◌∷◌, ◌++◌, refl, sym, ap, ◌∙◌, subst, append-nil, inl, inr, length, Some, None}
 use Rattle.std.specs.Borrow.{Bor}
-use Rattle.std.specs.Prelude.{codes, decimal}
 use Rattle.std.specs.List.{flat_map}
 use Rattle.redodb_model.specs.Names.{Text, texts}
 use Rattle.redodb_model.specs.Command.{names_in}
@@ -16,6 +15,7 @@ use Rattle.redodb_text.specs.declared.inquiries.Inquiry.{Inquiry}
 use Rattle.redodb_text.proofs.Inquired.{asked_of_command}
 use Rattle.redodb_history.specs.Histories.{line_text_of}
 use Rattle.redodb_live.specs.Answers.{names_line}
+use Rattle.redodb_live.specs.Lines.{lines_text_of}
 use Rattle.redodb_live.specs.Support.AnswerForms.{AnswersInForm}
 use Rattle.redodb_live.specs.Support.LiveState.{LiveState, state_in, calls_in, IsAsKnown}
 use Rattle.redodb_live.specs.Support.Appended.{AnswersText, EndsSession, IsUnansweredFor}
@@ -24,16 +24,16 @@ use Rattle.redodb_live.specs.declared.fault.Unanswered.{Unanswered as Why}
 use Rattle.redodb_live.specs.declared.fault.Unanswered.TheVariants.{Memory, Worn, Fault}
 use Rattle.redodb_live.specs.declared.fault.AnswerFault.{AnswerFault}
 use Rattle.redodb_live.specs.declared.fault.AnswerFault.TheVariants.{Unanswered, TooLong}
-use Rattle.redodb_conversation.specs.Rounds.{Round, Asks, HasNoSession, IsFaultWord, end_word, end_text_of, names_word, fault_text_of}
+use Rattle.redodb_conversation.specs.Rounds.{Round, Asks, IsFaultWord, end_word, end_text_of, names_word}
 use Rattle.redodb_conversation.specs.Support.Sending.{refusal_word_of}
 use Rattle.redodb_conversation.specs.declared.replying.Replied.TheVariants as replies
-use Rattle.redodb_conversation.specs.Support.Steps.{Known, Refusing, IsStep}
+use Rattle.redodb_conversation.specs.Support.Steps.{Known, Answering, Ending, IsFaultLine, Refusing, IsStep}
 use Rattle.redodb_conversation.specs.Support.Places.{known_of}
 use Rattle.redodb_conversation.specs.Support.Requests.{Requests, RequestsBadly}
 use Rattle.redodb_conversation.specs.declared.request.Request.TheVariants as requests
 use Rattle.redodb_conversation.specs.Support.Replies.{IsReplied, AppendsRound, WouldReply, IsPutOffFor, IsUndoneFor, IsInquiryFaultFor}
 use Rattle.redodb_conversation.proofs.LoggedPrefixes.{logs_prefix}
-use Rattle.redodb_conversation.proofs.Steps.{answering_step, ending_step, inquiring_step, listing_step, held_are_known, as_known}
+use Rattle.redodb_conversation.proofs.Steps.{all_change, as_known, held_are_known, one_logged}
 
 pub done_is_step : (old new : Known) (round : Round) → IsReplied replies.Done old new round
     → IsStep old new round
@@ -43,68 +43,123 @@ done_is_step old new round (inr (inr (inl is))) = inr (inr (inl is))
 done_is_step old new round (inr (inr (inr is))) = inr (inr (inr (inl is)))
 
 module _ (old : LiveState) (received : Text) (session : ℕ) where
+  -- a command that was answered
   pub answered_round : (new : LiveState) (text output output' logged logged' : Text)
       → AnswersText old new session text output output' logged logged' → Asks received session text
-      → AppendsRound replies.Done (known_of old) (known_of new) received output output' logged logged'
+      → AppendsRound replies.Done (known_of old) (known_of new) received output output' logged
+      logged'
   answered_round new text output output' logged logged' is asks =
-      let (round, is_received, step, writes, logs) =
-      answering_step old new received session text output output' logged logged' asks is in
+      let line = is.line in
+      let same = is.is.session_is in
+      let round : Round =
+      record { received = received; lines = line ∷ []; output = line_text_of line } in
+      let step : Answering (known_of old) (known_of new) round = record {
+        line = line;
+        text = text;
+        asks = subst (λ s. Asks received s text) (sym same) asks;
+        parsed = is.is.parsed;
+        names_are = is.is.named.0
+            ∙ ap (with_names old.names) (append-nil (names_in line.command));
+        few_names = is.is.named.1;
+        answers = subst (λ s. Answers texts (state_in old) s line.command line.reply) (sym same)
+            is.is.answers;
+        state_is = is.is.after_is
+            ∙ ap (λ s. after texts (state_in old) s line.command) (sym same);
+        calls_are = is.appended.calls;
+        lines_are = refl;
+        output_is = refl;
+      } in
       record {
         round = round;
-        received_is = is_received;
+        received_is = refl;
         step = inl step;
-        writes = writes;
-        logs = logs;
+        writes = is.appended.writes;
+        logs = is.appended.logs ∙ ap (λ t. logged ++ t) (one_logged (state_in old) line);
         prefix = logs_prefix (known_of old) (known_of new) round (inl step);
       }
 
+  -- a session that ended
   pub ended_round : (new : LiveState) (output output' logged logged' : Text)
       → EndsSession old new session output output' logged logged' → Asks received session end_word
-      → AppendsRound replies.Done (known_of old) (known_of new) received output output' logged logged'
+      → AppendsRound replies.Done (known_of old) (known_of new) received output output' logged
+      logged'
   ended_round new output output' logged logged' is asks =
-      let (round, is_received, step, writes, logs) =
-      ending_step old new received session output output' logged logged' asks is in
+      let lines = is.lines in
+      let round : Round = record {
+        received = received;
+        lines = lines;
+        output = flat_map line_text_of lines ++ end_text_of session;
+      } in
+      let step : Ending (known_of old) (known_of new) round = record {
+        session = session;
+        asks = asks;
+        held = is.is.targets;
+        are_held = is.is.held;
+        known = held_are_known old session is.is.targets is.is.held;
+        names_are = is.names;
+        state_is = is.is.left;
+        calls_are = is.calls;
+        lines_are = is.is.lines_are;
+        output_is = refl;
+      } in
       record {
         round = round;
-        received_is = is_received;
+        received_is = refl;
         step = inr (inl step);
-        writes = writes;
-        logs = logs;
+        writes = is.writes;
+        logs = is.logs
+            ∙ ap (λ ls. logged ++ lines_text_of ls) (sym (all_change (state_in old) session
+            is.is.targets lines is.is.lines_are));
         prefix = logs_prefix (known_of old) (known_of new) round (inr (inl step));
       }
 
+  -- an answer about a name
   pub inquired_round : (new : LiveState) → IsAsKnown old new
       → (text : Text) (inquiry : Inquiry) (name line output output' logged : Text)
       → Asks received session text → text ≡ inquiry_text_of inquiry name → inquiry_fault text ≡ None
       → AnswersInForm (state_in old) session inquiry name line → output' ≡ output ++ line
-      → AppendsRound replies.Done (known_of old) (known_of new) received output output' logged logged
+      → AppendsRound replies.Done (known_of old) (known_of new) received output output' logged
+      logged
   inquired_round new same text inquiry name line output output' logged asks is fits answers e =
-      let (round, is_received, step, writes, logs) =
-      inquiring_step old new received session text inquiry name line output output' logged asks is fits
-      answers same e in
       record {
-        round = round;
-        received_is = is_received;
-        step = inr (inr (inl step));
-        writes = writes;
-        logs = logs;
-        prefix = logs_prefix (known_of old) (known_of new) round (inr (inr (inl step)));
+        round = record { received = received; lines = []; output = line };
+        received_is = refl;
+        step = inr (inr (inl (record {
+          session = session;
+          inquiry = inquiry;
+          name = name;
+          asks = subst (Asks received session) is asks;
+          fits = subst (λ t. inquiry_fault t ≡ None) is fits;
+          answers = answers;
+          same = as_known old new same;
+          none = refl;
+        })));
+        writes = e;
+        logs = sym (append-nil logged);
+        prefix = (line, refl);
       }
 
+  -- the answer about all names
   pub listed_round : (new : LiveState) → IsAsKnown old new → (output output' logged : Text)
       → Asks received session names_word
       → output' ≡ output ++ names_line session old.names (state_in old)
-      → AppendsRound replies.Done (known_of old) (known_of new) received output output' logged logged
+      → AppendsRound replies.Done (known_of old) (known_of new) received output output' logged
+      logged
   listed_round new same output output' logged asks e =
-      let (round, is_received, step, writes, logs) =
-      listing_step old new received session output output' logged asks same e in
+      let line = names_line session old.names (state_in old) in
       record {
-        round = round;
-        received_is = is_received;
-        step = inr (inr (inr step));
-        writes = writes;
-        logs = logs;
-        prefix = logs_prefix (known_of old) (known_of new) round (inr (inr (inr (inl step))));
+        round = record { received = received; lines = []; output = line };
+        received_is = refl;
+        step = inr (inr (inr (record {
+          session = session;
+          asks = asks;
+          answers = refl;
+          same = as_known old new same;
+          none = refl;
+        })));
+        writes = e;
+        logs = sym (append-nil logged);
+        prefix = (line, refl);
       }
 
   -- and what the answer would be
@@ -193,8 +248,11 @@ module _ (old : LiveState) (received : Text) (session : ℕ) where
   pub would_list : (size : ℕ) → size ≡ length (names_line session old.names (state_in old))
       → Asks received session names_word → WouldReply (known_of old) received size
   would_list size e asks = record {
-    round =
-        record { received = received; lines = []; output = names_line session old.names (state_in old) };
+    round = record {
+      received = received;
+      lines = [];
+      output = names_line session old.names (state_in old);
+    };
     next = known_of old;
     received_is = refl;
     step = inr (inr (inr (inl (record {
@@ -206,13 +264,6 @@ module _ (old : LiveState) (received : Text) (session : ℕ) where
     }))));
     size_is = e;
   }
-
--- the line of a fault, whose line has no session or this cause
-abbrev IsFaultLine : ℕ → List Text → Text → Text → Type 0
-IsFaultLine calls names received line =
-    (HasNoSession received × (line ≡ fault_text_of (codes "0") (codes "bad-session")))
-    ⊎ ((s : ℕ) × (text : Text) × (word : Text) × Asks received s text
-    × IsFaultWord calls names text word × (line ≡ fault_text_of (decimal (s + 1)) word))
 
 module _ (old new : LiveState) (same : IsAsKnown old new) (received line : Text)
     (cause : IsFaultLine (calls_in old) old.names received line)
@@ -229,7 +280,8 @@ module _ (old new : LiveState) (same : IsAsKnown old new) (received line : Text)
 
     pub refused_round : (output output' logged logged' : Text) → output' ≡ output ++ line
         → logged' ≡ logged
-        → AppendsRound replies.Fault (known_of old) (known_of new) received output output' logged logged'
+        → AppendsRound replies.Fault (known_of old) (known_of new) received output output' logged
+        logged'
     refused_round output output' logged logged' writes logs = record {
       round = refused;
       received_is = refl;
@@ -259,7 +311,8 @@ pub undone_end : (live : LiveState) (session : ℕ) (text : Text) (most : ℕ) (
 undone_end live session text most (Unanswered why) is e = inr (inl (ap refusal_word_of e))
 undone_end live session text most (TooLong size) is (more, would) = (
   more,
-  λ received asks. would_end live received session size would (subst (Asks received session) is asks),
+  λ received asks.
+      would_end live received session size would (subst (Asks received session) is asks),
 )
 
 pub undone_names : (live : LiveState) (session : ℕ) (text : Text) (most : ℕ) (why : AnswerFault)
@@ -282,7 +335,8 @@ undone_inquiry live session text most inquiry name (Unanswered why) (is, fits) e
 undone_inquiry live session text most inquiry name (TooLong size) (is, fits) (more, answer) = (
   more,
   λ received asks.
-      would_inquire live received session text inquiry name.now answer.0 size is fits answer.1 answer.2 asks,
+      would_inquire live received session text inquiry name.now answer.0 size is fits answer.1
+      answer.2 asks,
 )
 
 pub undone_fault : (live : LiveState) (text : Text) (fault : LineFault) → RequestsBadly text fault

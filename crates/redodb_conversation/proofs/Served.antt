@@ -6,13 +6,13 @@ use Rattle.std.proofs.KnownBytes.{Consumes-nil}
 use Rattle.redodb_model.specs.Names.{Text}
 use Rattle.redodb_live.specs.Support.LiveState.{calls_in}
 use Rattle.redodb_log.specs.Logs.{Past, HasPast}
-use Rattle.redodb_log.specs.Operations.{Operation, Read as ReadLog, Append, Cut, Sync, Revert, Copy, Replace, Write as WriteOut, LogFailed, OutputFailed, HasNoFailure, StopsAtFailure, IsAlways, held_after}
+use Rattle.redodb_log.specs.Operations.{Operation, Read as ReadLog, OutputFailed, HasNoFailure, StopsAtFailure, IsAlways, held_after}
 use Rattle.redodb_io.proofs.Counts.{same_count}
 use Rattle.redodb_conversation.specs.Causes.{AnsweredAll, TalkedSoFar, IsServeCause, IsUnchanged, output_failed}
 use Rattle.redodb_conversation.specs.Rounds.{Round}
 use Rattle.redodb_conversation.specs.Talks.{Former, HasFound, BeginsBy, IsConversation, IsFirstLog, IsLogAfter, IsTalk, history_of, output_of}
 use Rattle.redodb_conversation.specs.declared.keeping.Keeping.{Keeping}
-use Rattle.redodb_conversation.specs.Support.Moments.{Start, Moment, IsBrokenOff, IsSafe, IsUnderWay, known_first}
+use Rattle.redodb_conversation.specs.Support.Moments.{Start, Moment, IsBrokenOff, IsSafe, known_first}
 use Rattle.redodb_conversation.specs.Support.Opening.{BeginsAt, BeginsInPart, IsOpenCause, IsOpenedFrom, start_of}
 use Rattle.redodb_conversation.specs.Support.Places.{known_of}
 use Rattle.redodb_conversation.specs.Support.Sending.{IsFollowedBy, IsSendCause}
@@ -22,8 +22,7 @@ use Rattle.redodb_conversation.specs.declared.fault.ServeFault.{ServeFault}
 use Rattle.redodb_conversation.specs.declared.fault.ServeFault.TheVariants.{Memory, Worn, State, Differs, Log, Read, TooLong, Write}
 use Rattle.redodb_conversation.specs.declared.opening.Opened.{Opened}
 use Rattle.redodb_conversation.proofs.Led.{steps_are_rounds, steps_lead}
-use Rattle.redodb_conversation.proofs.Moments.{output_more}
-use Rattle.redodb_conversation.proofs.UnderWay.{log_grown}
+use Rattle.redodb_conversation.proofs.UnderWay.{log_grown, output_whole}
 
 -- where no operation failed, none was done after one that failed
 stops_if_fine : (done : List Operation) → HasNoFailure done → StopsAtFailure done
@@ -100,24 +99,13 @@ module _ (keeping : Keeping) (version : Text) (past : Past) (bytes : Text) (open
       },
     )
 
-    module _ (known : Known) (left : Option Text) (done : List Operation) (more : Text)
-        (way : IsUnderWay start (record { known = known; left = left; done = done }) nothing more)
-      where
-        abbrev rounds : List Round
-        rounds = way.sent ++ way.kept
-
-        all_written : output_of version is.former way.sent ≡ output_of version is.former rounds
-        all_written =
-            sym (append-nil (output_of version is.former way.sent))
-            ∙ ap (λ t. output_of version is.former way.sent ++ t) (sym way.to_write)
-            ∙ sym (output_more version is.former way.sent way.kept)
-
     -- all that was read was answered
     answered_from : (known : Known) (left : Option Text) (done : List Operation)
         → HasAnsweredAll start known left done
         → (former : Former) × (rounds : List Round) × (rest : Text) × (former.past ≡ past)
         × IsConversation keeping version former rounds rest input left done
     answered_from known left done (more, free, way) =
+        let now : Moment = record { known = known; left = left; done = done } in
         let rounds = way.sent ++ way.kept in (
           is.former,
           rounds,
@@ -143,9 +131,9 @@ module _ (keeping : Keeping) (version : Text) (past : Past) (bytes : Text) (open
             fine = way.fine;
             unended = free;
             log = subst (IsLogAfter is.former first rounds) (append-nil (held_after done).all)
-                (log_grown start (record { known = known; left = left; done = done }) nothing more
-                way);
-            output = way.output ∙ all_written known left done more way;
+                (log_grown start now nothing more way);
+            output = way.output ∙ sym (append-nil (output_of version is.former way.sent))
+                ∙ sym (output_whole start now nothing more way);
           },
         )
 
@@ -220,10 +208,7 @@ module _ (keeping : Keeping) (version bytes : Text) (opened : Opened) (input : O
             (device, inr (talks_so_far (λ start same way. (talks start same way).1)))
         talk_cause_serves Write device talks =
             (device, talks_so_far (λ start same way. (talks start same way).1))
-        talk_cause_serves Memory device talks = absurd device
-        talk_cause_serves Worn device talks = absurd device
-        talk_cause_serves (State line) device talks = absurd device
-        talk_cause_serves (Differs line) device talks = absurd device
+        talk_cause_serves fault device talks = absurd device
 
 -- a log was read, and nothing was done then
 pub unchanged_by_read : (done earlier : List Operation) (bytes : Text) → done ≡ ReadLog bytes ∷ earlier
@@ -251,15 +236,7 @@ no_read_failed fault failures other = (
 output_changes : (done : List Operation) → IsTrue (output_failed done) → IsUnchanged done → ⊥
 output_changes [] failed same = absurd (cc)
 output_changes (OutputFailed ∷ earlier) failed same = absurd (cc)
-output_changes (ReadLog bytes ∷ earlier) failed same = absurd (cc)
-output_changes (Append bytes ∷ earlier) failed same = absurd (cc)
-output_changes (Cut size ∷ earlier) failed same = absurd (cc)
-output_changes (Sync ∷ earlier) failed same = absurd (cc)
-output_changes (Revert ∷ earlier) failed same = absurd (cc)
-output_changes (Copy ∷ earlier) failed same = absurd (cc)
-output_changes (Replace bytes ∷ earlier) failed same = absurd (cc)
-output_changes (WriteOut bytes ∷ earlier) failed same = absurd (cc)
-output_changes (LogFailed ∷ earlier) failed same = absurd (cc)
+output_changes (operation ∷ earlier) failed same = absurd (cc)
 
 module _ (keeping : Keeping) (version bytes : Text) (opened : Opened) (input : Option Text)
     (is : (past : Past) → HasPast past bytes
@@ -291,12 +268,7 @@ module _ (keeping : Keeping) (version bytes : Text) (opened : Opened) (input : O
         absurd (output_changes done failed same)
     begin_cause_serves done Write failed (inr (follows, part)) =
         (failed, in_part done follows part)
-    begin_cause_serves done Memory cause part = absurd cause
-    begin_cause_serves done Worn cause part = absurd cause
-    begin_cause_serves done (State line) cause part = absurd cause
-    begin_cause_serves done (Differs line) cause part = absurd cause
-    begin_cause_serves done Read cause part = absurd cause
-    begin_cause_serves done TooLong cause part = absurd cause
+    begin_cause_serves done fault cause part = absurd cause
 
 module _ (keeping : Keeping) (version bytes : Text) (input : Option Text) (done : List Operation)
     (read : done ≡ ReadLog bytes ∷ [])
@@ -310,7 +282,4 @@ module _ (keeping : Keeping) (version bytes : Text) (input : Option Text) (done 
     open_cause_serves Worn cause = (refl, (bytes, read, cause))
     open_cause_serves (State line) cause = (refl, (bytes, read, cause))
     open_cause_serves (Differs line) cause = (refl, (bytes, read, cause))
-    open_cause_serves (Log fault) cause = absurd cause
-    open_cause_serves Read cause = absurd cause
-    open_cause_serves TooLong cause = absurd cause
-    open_cause_serves Write cause = absurd cause
+    open_cause_serves fault cause = absurd cause

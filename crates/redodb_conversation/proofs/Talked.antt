@@ -14,9 +14,9 @@ use Rattle.redodb_conversation.specs.Support.Sending.{IsSendCause}
 use Rattle.redodb_conversation.specs.Support.Talking.{HasAnsweredAll, IsTalkCause}
 use Rattle.redodb_conversation.specs.declared.sending.Unsent.{Unsent}
 use Rattle.redodb_conversation.specs.declared.fault.ServeFault.{ServeFault}
-use Rattle.redodb_conversation.specs.declared.fault.ServeFault.TheVariants.{Memory, Worn, State, Differs, Log, Read, TooLong, Write}
+use Rattle.redodb_conversation.specs.declared.fault.ServeFault.TheVariants.{Log, Write}
 use Rattle.redodb_conversation.proofs.Responding.{place, same_waiting}
-use Rattle.redodb_conversation.proofs.UnderWay.{received_more}
+use Rattle.redodb_conversation.proofs.UnderWay.{reads_on, received_more}
 
 module _ (start : Start) (known : Known) (left left' : Option Text) (done : List Operation)
     (logged output begun : Text)
@@ -24,23 +24,11 @@ module _ (start : Start) (known : Known) (left left' : Option Text) (done : List
   where
     -- a read that failed took nothing
     pub kept_left : Keeps left left' → TalksAt start left' (place known done logged output) begun
-    kept_left same = record {
-      is_start = talk.is_start;
-      sent = talk.sent;
-      kept = talk.kept;
-      steps = talk.steps;
-      lines = talk.lines;
-      received = Consumes-kept start.left left left' (received_in (talk.sent ++ talk.kept) ++ begun)
-          talk.received same;
-      begins = talk.begins;
-      fine = talk.fine;
-      always = talk.always;
-      log = talk.log;
-      disk = talk.disk;
-      to_log = talk.to_log;
-      output = talk.output;
-      to_write = talk.to_write;
-    }
+    kept_left same =
+        reads_on start (record { known = known; left = left; done = done })
+        (record { output = output; logged = logged }) begun talk left' begun
+        (Consumes-kept start.left left left' (received_in (talk.sent ++ talk.kept) ++ begun)
+        talk.received same)
 
     -- a read gave more
     pub read_more : (bytes : Text) → Consumes left left' bytes
@@ -50,7 +38,8 @@ module _ (start : Start) (known : Known) (left left' : Option Text) (done : List
         (record { output = output; logged = logged }) begun talk left' bytes taken
 
     -- a read gave nothing
-    pub read_none : Consumes left left' [] → TalksAt start left' (place known done logged output) begun
+    pub read_none : Consumes left left' [] → TalksAt start left' (place known done logged output)
+        begun
     read_none taken =
         subst (λ t. TalksAt start left' (place known done logged output) t) (append-nil begun)
         (read_more [] taken)
@@ -63,14 +52,14 @@ module _ (start : Start) (left : Option Text) (live : LiveState) (done : List Op
     pub none_waiting : TalksAt start left (as_place live done unsent) more
         → TalksAt start left (idle_place live done) more
     none_waiting talk =
-        same_waiting start left (known_of live) done unsent.logged.items unsent.output.items [] [] more
-        (sym none_logged) (sym none_output) talk
+        same_waiting start left (known_of live) done unsent.logged.items unsent.output.items [] []
+        more (sym none_logged) (sym none_output) talk
 
     pub waiting_again : TalksAt start left (idle_place live done) more
         → TalksAt start left (as_place live done unsent) more
     waiting_again talk =
-        same_waiting start left (known_of live) done [] [] unsent.logged.items unsent.output.items more
-        none_logged none_output talk
+        same_waiting start left (known_of live) done [] [] unsent.logged.items unsent.output.items
+        more none_logged none_output talk
 
 -- nothing waits, and the line that began has no end
 pub answered_all : (start : Start) (known : Known) (left : Option Text) (done : List Operation)
@@ -87,9 +76,4 @@ pub send_cause_talks : (start : Start) (known : Known) (left : Option Text) (don
     → IsTalkCause start known left done fault
 send_cause_talks start known left done (Log fault) cause broken = (cause, broken)
 send_cause_talks start known left done Write cause broken = (cause, broken)
-send_cause_talks start known left done Memory cause broken = absurd cause
-send_cause_talks start known left done Worn cause broken = absurd cause
-send_cause_talks start known left done (State line) cause broken = absurd cause
-send_cause_talks start known left done (Differs line) cause broken = absurd cause
-send_cause_talks start known left done Read cause broken = absurd cause
-send_cause_talks start known left done TooLong cause broken = absurd cause
+send_cause_talks start known left done fault cause broken = absurd cause

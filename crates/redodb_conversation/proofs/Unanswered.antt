@@ -7,7 +7,7 @@ use Rattle.redodb_conversation.specs.Rounds.{Round, fault_text_of}
 use Rattle.redodb_conversation.specs.Support.Places.{known_of}
 use Rattle.redodb_conversation.specs.Support.Replies.{IsReplied}
 use Rattle.redodb_conversation.specs.Support.Steps.{Known, Refusing, IsStep}
-use Rattle.redodb_conversation.specs.Support.Unanswered.{IsMemoryFor}
+use Rattle.redodb_conversation.specs.Support.Sending.{IsMemoryFor}
 use Rattle.redodb_conversation.specs.declared.replying.Replied.{Replied}
 use Rattle.redodb_conversation.specs.declared.replying.Replied.TheVariants.{Done, Fault}
 use Rattle.redodb_conversation.proofs.RoundReplied.{done_is_step}

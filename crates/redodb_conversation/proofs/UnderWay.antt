@@ -8,7 +8,7 @@ use Rattle.redodb_model.specs.State.{empty}
 use Rattle.redodb_model.specs.History.{left_by}
 use Rattle.redodb_model.proofs.OneMore.{left_by-append}
 use Rattle.redodb_history.specs.Histories.{ended}
-use Rattle.redodb_log.specs.Operations.{Operation, Held, Append, Sync, Revert, Write, LogFailed, OutputFailed, HasNoFailure, StopsAtFailure, IsPrefix, IsAlways, held_after, written_by}
+use Rattle.redodb_log.specs.Operations.{is_copy, Operation, Held, Append, Sync, Revert, Write, LogFailed, OutputFailed, HasNoFailure, IsPrefix, IsAlways, held_after, written_by}
 use Rattle.redodb_conversation.specs.Logs.{HasNoEnd, logged_of}
 use Rattle.redodb_conversation.specs.Rounds.{Round, lines_in, received_in, output_in}
 use Rattle.redodb_conversation.specs.Talks.{AreLines, BeginsBy, IsLogAfter, history_of, output_of, state_after}
@@ -16,6 +16,7 @@ use Rattle.redodb_conversation.specs.Support.Moments.{Start, Moment, Waiting, Is
 use Rattle.redodb_conversation.specs.Support.Sending.{IsAppendedInPart, IsUnsynced, IsWrittenInPart, IsSentInPart, after_logging, sent_after}
 use Rattle.redodb_conversation.specs.Support.Steps.{Known, IsStep, AreSteps}
 use Rattle.redodb_conversation.specs.Support.Talking.{nothing}
+use Rattle.redodb_conversation.proofs.WholeOperations.{always_whole, is_whole}
 use Rattle.redodb_conversation.proofs.Moments.{begins_after_logging, begins_more, fine_after_logging, lines_more, prefix_self, prefix_of_same, prefix_trans, prefix_of_either, prefix_behind, append_always, write_always, log_more, logged_more, state_more, output_more, always_more, log_failed_safe, output_failed_safe, all_after_logging, kept_after_logging, written_after_logging, always_after_logging}
 use Rattle.redodb_conversation.proofs.RoundByRound.{steps_more, steps_state, in_more}
 
@@ -58,8 +59,8 @@ module _ (start : Start) (now : Moment) (waiting : Waiting) (more : Text)
 
     -- a line was read and answered
     pub answered_more : (round : Round) (known : Known) (rest : Text)
-        → more ≡ ended round.received ++ rest → HasNoEnd round.received → IsStep now.known known round
-        → IsUnderWay start (record now { known = known }) (record {
+        → more ≡ ended round.received ++ rest → HasNoEnd round.received
+        → IsStep now.known known round → IsUnderWay start (record now { known = known }) (record {
           output = waiting.output ++ round.output;
           logged = waiting.logged ++ logged_of now.known.state round.lines;
         }) rest
@@ -96,17 +97,17 @@ module _ (start : Start) (now : Moment) (waiting : Waiting) (more : Text)
               ∙ ap (λ t. t ++ round.output) way.to_write;
         }
 
-    -- more was read
-    pub received_more : (left : Option Text) (bytes : Text) → Consumes now.left left bytes
-        → IsUnderWay start (record now { left = left }) waiting (more ++ bytes)
-    received_more left bytes taken = record {
+    -- something was read, and this is not answered then
+    pub reads_on : (left : Option Text) (text : Text)
+        → Consumes start.left left (received_in rounds ++ text)
+        → IsUnderWay start (record now { left = left }) waiting text
+    reads_on left text received = record {
       is_start = way.is_start;
       sent = way.sent;
       kept = way.kept;
       steps = way.steps;
       lines = way.lines;
-      received = subst (Consumes start.left left) (append_assoc (received_in rounds) more bytes)
-          (Consumes-trans start.left now.left left (received_in rounds ++ more) bytes way.received taken);
+      received = received;
       begins = way.begins;
       fine = way.fine;
       always = way.always;
@@ -117,36 +118,44 @@ module _ (start : Start) (now : Moment) (waiting : Waiting) (more : Text)
       to_write = way.to_write;
     }
 
+    pub received_more : (left : Option Text) (bytes : Text) → Consumes now.left left bytes
+        → IsUnderWay start (record now { left = left }) waiting (more ++ bytes)
+    received_more left bytes taken =
+        reads_on left (more ++ bytes)
+        (subst (Consumes start.left left) (append_assoc (received_in rounds) more bytes)
+        (Consumes-trans start.left now.left left (received_in rounds ++ more) bytes way.received
+        taken))
+
     -- that is the log after all rounds
     pub log_grown : IsLogAfter start.former start.first rounds whole_log
     log_grown =
         subst (λ t. IsLogAfter start.former start.first rounds (held.all ++ t)) way.to_log
         (log_more start.former start.first way.sent way.kept held.all way.log)
 
-    within_whole : (some : Text) → IsPrefix some whole_log
-        → IsPrefix some
-        (held.all ++ logged_of (state_after start.former way.sent) (lines_in way.kept))
-    within_whole some = subst (λ t. IsPrefix some (held.all ++ t)) (sym way.to_log)
-
-    written_sent : IsPrefix (written_by now.done) (output_of start.version start.former way.sent)
-    written_sent =
-        prefix_of_same (written_by now.done) (output_of start.version start.former way.sent)
-        way.output
-
-    append_safe : (some : Text) → IsPrefix some waiting.logged
-        → IsSafe start rounds (Append some ∷ now.done)
-    append_safe some part =
+    -- what was sent was written, and the log holds that, or some of what waits besides
+    sent_safe : (done : List Operation) → written_by done ≡ written_by now.done
+        → IsPrefix held.all (cond start.sync (held_after done).synced (held_after done).all)
+        → IsPrefix (held_after done).all whole_log → IsSafe start rounds done
+    sent_safe done same logged within =
         inr (record {
           answered = way.sent;
           others = way.kept;
           parts = refl;
-          written = written_sent;
+          written = prefix_of_same (written_by done)
+              (output_of start.version start.former way.sent) (same ∙ way.output);
           log = held.all;
           is_log = way.log;
-          logged = kept_while_appending start.sync held.all held.synced held.all some way.disk refl;
-          nothing_else = within_whole (held.all ++ some)
-              (prefix_behind held.all some waiting.logged part);
+          logged = logged;
+          nothing_else = subst (λ t. IsPrefix (held_after done).all (held.all ++ t))
+              (sym way.to_log) within;
         })
+
+    append_safe : (some : Text) → IsPrefix some waiting.logged
+        → IsSafe start rounds (Append some ∷ now.done)
+    append_safe some part =
+        sent_safe (Append some ∷ now.done) refl
+        (kept_while_appending start.sync held.all held.synced held.all some way.disk refl)
+        (prefix_behind held.all some waiting.logged part)
 
     pub appends_safely : IsAlways (IsSafe start rounds) (Append waiting.logged ∷ now.done)
     appends_safely =
@@ -155,16 +164,9 @@ module _ (start : Start) (now : Moment) (waiting : Waiting) (more : Text)
     sync_safe : IsSafe start rounds (Sync ∷ Append waiting.logged ∷ now.done)
     sync_safe =
         let begins : IsPrefix held.all whole_log = (waiting.logged, refl) in
-        inr (record {
-          answered = way.sent;
-          others = way.kept;
-          parts = refl;
-          written = written_sent;
-          log = held.all;
-          is_log = way.log;
-          logged = prefix_of_either start.sync held.all whole_log whole_log begins begins;
-          nothing_else = within_whole whole_log (prefix_self whole_log);
-        })
+        sent_safe (Sync ∷ Append waiting.logged ∷ now.done) refl
+        (prefix_of_either start.sync held.all whole_log whole_log begins begins)
+        (prefix_self whole_log)
 
     logs_safely : IsAlways (IsSafe start rounds) logged
     logs_safely =
@@ -177,7 +179,7 @@ module _ (start : Start) (now : Moment) (waiting : Waiting) (more : Text)
         ap (λ t. t ++ some)
         (written_after_logging waiting.logged now.done start.sync ∙ way.output)
 
-    output_whole : output_of start.version start.former rounds
+    pub output_whole : output_of start.version start.former rounds
         ≡ output_of start.version start.former way.sent ++ waiting.output
     output_whole =
         output_more start.version start.former way.sent way.kept
@@ -237,39 +239,36 @@ module _ (start : Start) (now : Moment) (waiting : Waiting) (more : Text)
           to_write = refl;
         }
 
-    broken_by : (done : List Operation) → BeginsBy start.bytes start.former done
-        → StopsAtFailure done → IsAlways (IsSafe start rounds) done
+    -- an operation failed after these
+    failed_after : (failure : Operation) (before done : List Operation) → done ≡ failure ∷ before
+        → is_copy failure ≡ false → is_whole failure ≡ true
+        → BeginsBy start.bytes start.former before → HasNoFailure before
+        → IsAlways (IsSafe start rounds) before → IsSafe start rounds (failure ∷ before)
         → IsBrokenOff start (record now { done = done })
-    broken_by done begins stops always = record {
-      known = now.known;
-      rounds = rounds;
-      more = more;
-      steps = way.steps;
-      lines = way.lines;
-      received = way.received;
-      begins = begins;
-      stops = stops;
-      always = always;
-    }
+    failed_after failure before done e no_copy whole begins fine always safe =
+        subst (λ ops. IsBrokenOff start (record now { done = ops })) (sym e) (record {
+          known = now.known;
+          rounds = rounds;
+          more = more;
+          steps = way.steps;
+          lines = way.lines;
+          received = way.received;
+          begins = begins_more start.bytes start.former failure before no_copy begins;
+          stops = fine;
+          always = always_whole (IsSafe start rounds) before always failure whole safe;
+        })
 
     -- an append failed
     append_broken : (done : List Operation) → IsAppendedInPart waiting.logged now.done done
         → IsBrokenOff start (record now { done = done })
     append_broken done (some, part, e) =
         let appended = Append some ∷ now.done in
-        let whole : IsAlways (IsSafe start rounds) appended =
-        append_always (IsSafe start rounds) now.done way.always some
-        (λ less is. append_safe less
-        (prefix_trans less some waiting.logged is part)) in
-        subst (λ ops. IsBrokenOff start (record now { done = ops })) (sym e)
-        (broken_by (LogFailed ∷ appended)
-        (begins_more start.bytes start.former LogFailed appended refl
-        (begins_more start.bytes start.former (Append some) now.done refl way.begins))
-        (refl, way.fine) (
-          λ last same. subst (λ o. IsSafe start rounds (o ∷ appended)) (sym same)
-              (log_failed_safe start rounds appended (append_safe some part)),
-          whole,
-        ))
+        failed_after LogFailed appended done e refl refl
+        (begins_more start.bytes start.former (Append some) now.done refl way.begins)
+        (refl, way.fine)
+        (append_always (IsSafe start rounds) now.done way.always some (λ less is.
+        append_safe less (prefix_trans less some waiting.logged is part)))
+        (log_failed_safe start rounds appended (append_safe some part))
 
     -- a sync failed
     unsynced_safe : start.sync ≡ true
@@ -277,19 +276,10 @@ module _ (start : Start) (now : Moment) (waiting : Waiting) (more : Text)
     unsynced_safe synced =
         let same : held.synced ≡ held.all =
         subst (λ b. cond b held.synced held.all ≡ held.all) synced way.disk in
-        inr (record {
-          answered = way.sent;
-          others = way.kept;
-          parts = refl;
-          written = written_sent;
-          log = held.all;
-          is_log = way.log;
-          logged = prefix_of_either start.sync held.all held.synced held.synced
-              (prefix_of_same held.all held.synced (sym same))
-              (prefix_of_same held.all held.synced (sym same));
-          nothing_else = within_whole held.synced
-              (waiting.logged, ap (λ t. t ++ waiting.logged) (sym same));
-        })
+        let kept = prefix_of_same held.all held.synced (sym same) in
+        sent_safe (Revert ∷ Append waiting.logged ∷ now.done) refl
+        (prefix_of_either start.sync held.all held.synced held.synced kept kept)
+        (waiting.logged, ap (λ t. t ++ waiting.logged) (sym same))
 
     sync_broken : (done : List Operation) → start.sync ≡ true
         → IsUnsynced waiting.logged now.done done
@@ -300,22 +290,10 @@ module _ (start : Start) (now : Moment) (waiting : Waiting) (more : Text)
         way.begins in
         let whole = append_safe waiting.logged (prefix_self waiting.logged) in
         elim failed [
-          | inl e ↦ subst (λ ops. IsBrokenOff start (record now { done = ops })) (sym e)
-              (broken_by (LogFailed ∷ appended)
-              (begins_more start.bytes start.former LogFailed appended refl begins)
-              (refl, way.fine) (
-                λ last same. subst (λ o. IsSafe start rounds (o ∷ appended)) (sym same)
-                    (log_failed_safe start rounds appended whole),
-                appends_safely,
-              ))
-          | inr e ↦ subst (λ ops. IsBrokenOff start (record now { done = ops })) (sym e)
-              (broken_by (Revert ∷ appended)
-              (begins_more start.bytes start.former Revert appended refl begins)
-              (refl, way.fine) (
-                λ last same. subst (λ o. IsSafe start rounds (o ∷ appended)) (sym same)
-                    (unsynced_safe synced),
-                appends_safely,
-              ))
+          | inl e ↦ failed_after LogFailed appended done e refl refl begins (refl, way.fine)
+              appends_safely (log_failed_safe start rounds appended whole)
+          | inr e ↦ failed_after Revert appended done e refl refl begins (refl, way.fine)
+              appends_safely (unsynced_safe synced)
         ]
 
     -- a write failed
@@ -323,18 +301,12 @@ module _ (start : Start) (now : Moment) (waiting : Waiting) (more : Text)
         → IsBrokenOff start (record now { done = done })
     write_broken done (some, part, e) =
         let written = Write some ∷ logged in
-        let whole : IsAlways (IsSafe start rounds) written =
-        write_always (IsSafe start rounds) logged logs_safely some
-        (λ less is. write_safe less (prefix_trans less some waiting.output is part)) in
-        subst (λ ops. IsBrokenOff start (record now { done = ops })) (sym e)
-        (broken_by (OutputFailed ∷ written)
-        (begins_more start.bytes start.former OutputFailed written refl
-        (begins_more start.bytes start.former (Write some) logged refl begins_logged))
-        (refl, fine_logged) (
-          λ last same. subst (λ o. IsSafe start rounds (o ∷ written)) (sym same)
-              (output_failed_safe start rounds written (write_safe some part)),
-          whole,
-        ))
+        failed_after OutputFailed written done e refl refl
+        (begins_more start.bytes start.former (Write some) logged refl begins_logged)
+        (refl, fine_logged)
+        (write_always (IsSafe start rounds) logged logs_safely some (λ less is.
+        write_safe less (prefix_trans less some waiting.output is part)))
+        (output_failed_safe start rounds written (write_safe some part))
 
     pub sent_in_part : (done : List Operation)
         → IsSentInPart start.sync waiting.logged waiting.output now.done done

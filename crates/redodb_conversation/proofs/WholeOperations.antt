@@ -1,6 +1,6 @@
 -- What is always true of operations that have no parts.
 use Rattle.std.proofs.Common.{◌≡◌, true, false, Bool, List, ◌∷◌, sym, subst}
-use Rattle.redodb_log.specs.Operations.{Operation, Read, Append, Cut, Sync, Revert, Copy, Replace, Write, LogFailed, OutputFailed, IsPartOf, IsAlways}
+use Rattle.redodb_log.specs.Operations.{Operation, Append, Write, IsPartOf, IsAlways}
 
 -- an operation that is done whole or not at all
 abbrev pub is_whole : Operation → Bool
@@ -12,14 +12,7 @@ part_is_whole : (operation part : Operation) → is_whole operation ≡ true →
     → part ≡ operation
 part_is_whole (Append bytes) part part_too is = absurd (cc)
 part_is_whole (Write bytes) part part_too is = absurd (cc)
-part_is_whole (Read bytes) part whole is = is
-part_is_whole (Cut size) part whole is = is
-part_is_whole Sync part whole is = is
-part_is_whole Revert part whole is = is
-part_is_whole Copy part whole is = is
-part_is_whole (Replace bytes) part whole is = is
-part_is_whole LogFailed part whole is = is
-part_is_whole OutputFailed part whole is = is
+part_is_whole operation part whole is = is
 
 module _ (P : List Operation → Type 0) (done : List Operation) (always : IsAlways P done) where
   pub always_whole : (operation : Operation) → is_whole operation ≡ true → P (operation ∷ done)

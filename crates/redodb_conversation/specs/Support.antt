@@ -1,12 +1,10 @@
 pub mod Steps
 pub mod Moments
 pub mod KeptLines
-pub mod Unanswered
 pub mod Sending
 pub mod Requests
 pub mod Replies
 pub mod Places
-pub mod LeftBy
 pub mod Talking
 pub mod Opening
 pub mod Laws

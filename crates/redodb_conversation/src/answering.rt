@@ -4,8 +4,7 @@ ghost use Rattle.redodb_history.specs.Histories.{ended};
 ghost use Rattle.redodb_conversation.specs.Logs.{HasNoEnd};
 ghost use Rattle.redodb_conversation.specs.Support.KeptLines.{IsReceivedOf, IsPrefixOf, kept_of};
 ghost use Rattle.redodb_conversation.specs.Support.Places.{GoesOn, GoesOnInLine, BreaksOff, as_place};
-ghost use Rattle.redodb_conversation.specs.Support.Sending.{IsFollowedBy, IsSendCause};
-ghost use Rattle.redodb_conversation.specs.Support.Unanswered.{IsMemoryFor};
+ghost use Rattle.redodb_conversation.specs.Support.Sending.{IsFollowedBy, IsMemoryFor, IsSendCause};
 
 use crate::asked::asked;
 use crate::fault::{Refusal, ServeFault};
@@ -66,7 +65,8 @@ fn answer_line<D: Devices>(
         (as_place live.old (D.history devices.old) unsent.old)
         (as_place live.new (D.history devices.new) unsent.new)
         (ended whole ++ more) more) }
-    ensures broken { OnErr result ((whole more : Text) → IsReceivedOf whole line.now → BreaksOff sync
+    ensures broken { OnErr result ((whole more : Text) → IsReceivedOf whole line.now
+        → BreaksOff sync
         (as_place live.old (D.history devices.old) unsent.old)
         (as_place live.new (D.history devices.new) unsent.new)
         (ended whole ++ more)) }

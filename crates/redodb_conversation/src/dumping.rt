@@ -5,7 +5,8 @@ ghost use Rattle.redodb_model.specs.Names.{Text};
 ghost use Rattle.redodb_live.specs.Support.LiveState.{state_in};
 ghost use Rattle.redodb_dump.specs.Dumps.{HasSessions, IsStateOver, dump_of};
 ghost use Rattle.redodb_log.specs.Logs.{dump_header, head_of, AreLogged, IsPast};
-ghost use Rattle.redodb_conversation.specs.Support.LeftBy.{IsLeftBy};
+ghost use Rattle.redodb_conversation.specs.Support.Places.{known_of};
+ghost use Rattle.redodb_conversation.specs.Support.Steps.{LeadsTo};
 
 use redodb_dump::dump;
 use redodb_live::Live;
@@ -29,7 +30,7 @@ fn dump_log(alloc: Global, live: &Live) -> Result<Vec<u8>, AllocError>
 /// A log that begins with a dump of what is known, if it has at most so many bytes, and memory suffices.
 pub(crate) fn dumped(alloc: Global, live: &Live, most: usize) -> Option<Vec<u8>>
     ensures { IfSome result (λ log. (before : List (Line Text)) → AreLogged before
-        → IsLeftBy live.now before → IsPast (Some before)
+        → LeadsTo before (known_of live.now) → IsPast (Some before)
         × (log.items ≡ head_of (Some before))) }
 {
     let Ok(log) = dump_log(alloc, live) else {

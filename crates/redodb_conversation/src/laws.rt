@@ -73,7 +73,8 @@ pub fn conversation_is_determined()
         → AllByRecursion (λ round. ¬ (AsksWhy round.received)) a → a ≡ b }
     ensures bytes { (version base second : Text) (m n : ℕ) (former : Former) (a b : List Round)
         (rest last : Text) (one other : List Operation) → HasLed version base m former a rest one
-        → HasLed version second n former b last other → received_in a ++ rest ≡ received_in b ++ last
+        → HasLed version second n former b last other
+        → received_in a ++ rest ≡ received_in b ++ last
         → AllByRecursion HasSufficed a → AllByRecursion HasSufficed b
         → AllByRecursion (λ round. ¬ (AsksWhy round.received)) a
         → (written_by one ≡ written_by other)
@@ -83,7 +84,8 @@ pub fn conversation_is_determined()
 /// Questions with the same line as their answer are the same session's about the same name, and are answered the same.
 pub fn answers_differ()
     ensures { (old new other_old other_new : Known) (a b : Round)
-        → (one : Inquiring old new a) → (other : Inquiring other_old other_new b) → a.output ≡ b.output
+        → (one : Inquiring old new a) → (other : Inquiring other_old other_new b)
+        → a.output ≡ b.output
         → (one.session ≡ other.session) × (one.name ≡ other.name)
         × (one.answers.is.answer ≡ other.answers.is.answer) }
 {}

@@ -5,7 +5,8 @@ ghost use Rattle.redodb_model.specs.Names.{Text};
 ghost use Rattle.redodb_history.specs.Histories.{ended};
 ghost use Rattle.redodb_log.specs.Logs.{AreLogged, HasPast, Past};
 ghost use Rattle.redodb_log.specs.Operations.{Read, held_after};
-ghost use Rattle.redodb_conversation.specs.Support.LeftBy.{IsLeftBy};
+ghost use Rattle.redodb_conversation.specs.Support.Places.{known_of};
+ghost use Rattle.redodb_conversation.specs.Support.Steps.{LeadsTo};
 ghost use Rattle.redodb_conversation.specs.Support.Opening.{EndsAll, IsKeptFrom, IsOpenCause, IsOpenedFrom, BeginsAt, BeginsInPart, HasGoneOn, HasGoneOnInPart, IsCutInPart, after_cut};
 ghost use Rattle.redodb_conversation.specs.Support.Sending.{IsSendCause};
 
@@ -80,7 +81,8 @@ fn restore_or_salvage(alloc: Global, salvage: bool, log: &[u8]) -> Result<Kept, 
 /// Ends each session that holds something; `logged` gets the lines.
 fn end_all(alloc: Global, live: &mut Live, logged: &mut Vec<u8>) -> Result<(), AllocError>
     ensures { OnOk result ((before : List (Line Text)) → AreLogged before
-        → IsLeftBy live.old before → EndsAll before live.new logged.old.items logged.new.items) }
+        → LeadsTo before (known_of live.old)
+        → EndsAll before live.new logged.old.items logged.new.items) }
 {
     let sessions = live.holders(alloc)?;
     let mut output = Vec::new(alloc);

@@ -13,7 +13,7 @@ use crate::asked::asked;
 use crate::fault::Refusal;
 use crate::request::{Request, read_request};
 use crate::sending::fault_line;
-use redodb_live::{Live, Unanswered, AnswerFault};
+use redodb_live::{AnswerFault, Live, Unanswered};
 use redodb_text::Inquiry;
 use std::alloc::Global;
 

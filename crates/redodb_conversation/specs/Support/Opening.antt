@@ -14,7 +14,7 @@ use Rattle.redodb_log.specs.declared.restoring.RestoreFault.TheVariants as resto
 use Rattle.redodb_conversation.specs.Causes.{IsUnchanged}
 use Rattle.redodb_conversation.specs.Rounds.{Round, lines_in}
 use Rattle.redodb_conversation.specs.Talks.{Former, AreRestored, AreEnded, BeginsBy, IsFirstLog, found_in, found_log, history_of, greeting_of}
-use Rattle.redodb_conversation.specs.Support.LeftBy.{IsLeftBy}
+use Rattle.redodb_conversation.specs.Support.Steps.{LeadsTo}
 use Rattle.redodb_conversation.specs.Support.Moments.{Start, IsSafe, IsUnderWay}
 use Rattle.redodb_conversation.specs.Support.Places.{known_of}
 use Rattle.redodb_conversation.specs.Support.Sending.{IsFollowedBy}
@@ -41,7 +41,7 @@ pub record EndsAll (before : List (Line Text)) (live : LiveState) (logged logged
     : Type 0 where
   pub ends : List Round
   pub ended : AreEnded before ends
-  pub left : IsLeftBy live (before ++ lines_in ends)
+  pub left : LeadsTo (before ++ lines_in ends) (known_of live)
   pub logged_lines : AreLogged (before ++ lines_in ends)
   pub logs : logged_after ≡ logged ++ lines_text_of (lines_in ends)
 
@@ -63,7 +63,7 @@ pub record IsKeptFrom (salvage : Bool) (past : Past) (bytes : Text) (kept : Kept
   pub lines : List (Line Text)
   pub logged : AreLogged (past_lines past ++ lines)
   pub restored : AreRestored salvage past bytes lines
-  pub left : IsLeftBy kept.restored.live (past_lines past ++ lines)
+  pub left : LeadsTo (past_lines past ++ lines) (known_of kept.restored.live)
   pub within : kept.restored.bytes ≤ length bytes
   pub count : kept.restored.lines ≡ length lines
   pub are_kept : AreKept past bytes kept.restored.bytes lines
@@ -76,7 +76,7 @@ pub record IsOpenedFrom (salvage : Bool) (version : Text) (past : Past) (bytes :
   pub past_is : former.past ≡ past
   pub restored : AreRestored salvage former.past bytes former.lines
   pub ended : AreEnded (found_in former) former.ends
-  pub left : IsLeftBy opened.live (history_of former)
+  pub left : LeadsTo (history_of former) (known_of opened.live)
   pub logged : AreLogged (history_of former)
   pub within : opened.bytes ≤ length bytes
   pub lines : ((former.past ≡ None) × (former.lines ≡ []))

@@ -1,10 +1,11 @@
 -- What was done when what waits was sent, or could not be; and what becomes of a fault's line.
-use Rattle.std.specs.Prelude.{◌≡◌, ◌⊎◌, Bool, cond, List, [], ◌∷◌, ◌++◌, IsTrue, codes}
+use Rattle.std.specs.Prelude.{◌≡◌, ◌⊎◌, ℕ, ◌+◌, Bool, cond, List, [], ◌∷◌, ◌++◌, IsTrue, codes}
 use Rattle.redodb_model.specs.Names.{Text}
 use Rattle.redodb_text.specs.Faults.{fault_word_of}
 use Rattle.redodb_live.specs.declared.fault.Unanswered.{Unanswered}
 use Rattle.redodb_live.specs.declared.fault.Unanswered.TheVariants.{Memory, Worn, Fault}
 use Rattle.redodb_log.specs.Operations.{Operation, Append, Sync, Revert, Write, LogFailed, OutputFailed, IsPrefix}
+use Rattle.redodb_conversation.specs.Rounds.{Asks, HasNoSession}
 use Rattle.redodb_conversation.specs.Causes.{log_failed, output_failed}
 use Rattle.redodb_conversation.specs.declared.fault.ServeFault.{ServeFault}
 use Rattle.redodb_conversation.specs.declared.fault.ServeFault.TheVariants as faults
@@ -14,6 +15,12 @@ abbrev pub refusal_word_of : Unanswered → Text
 refusal_word_of Memory = codes "memory"
 refusal_word_of Worn = codes "worn"
 refusal_word_of (Fault fault) = fault_word_of fault
+
+-- the fault of a line for whose answer memory ran out: its session's, or that it has none
+abbrev pub IsMemoryFor : Text → ℕ → Text → Type 0
+IsMemoryFor line number word =
+    (HasNoSession line × (number ≡ 0) × (word ≡ codes "bad-session"))
+    ⊎ ((s : ℕ) × (text : Text) × Asks line s text × (number ≡ s + 1) × (word ≡ codes "memory"))
 
 -- more was done, or nothing
 abbrev pub IsFollowedBy : List Operation → List Operation → Type 0

@@ -76,14 +76,18 @@ pub record Listing (old new : Known) (round : Round) : Type 0 where
   pub same : new ≡ old
   pub none : round.lines ≡ []
 
+-- the line has no session, or this fault, and this is its answer
+abbrev pub IsFaultLine : ℕ → List Text → Text → Text → Type 0
+IsFaultLine calls names received line =
+    (HasNoSession received × (line ≡ fault_text_of (codes "0") (codes "bad-session")))
+    ⊎ ((s : ℕ) × (text : Text) × (word : Text) × Asks received s text
+    × IsFaultWord calls names text word × (line ≡ fault_text_of (decimal (s + 1)) word))
+
 -- a fault was answered
 pub record Refusing (old new : Known) (round : Round) : Type 0 where
   pub same : new ≡ old
   pub none : round.lines ≡ []
-  pub cause : (HasNoSession round.received
-      × (round.output ≡ fault_text_of (codes "0") (codes "bad-session")))
-      ⊎ ((s : ℕ) × (text : Text) × (word : Text) × Asks round.received s text
-      × IsFaultWord old.calls old.names text word × (round.output ≡ fault_text_of (decimal (s + 1)) word))
+  pub cause : IsFaultLine old.calls old.names round.received round.output
 
 abbrev pub IsStep : Known → Known → Round → Type 0
 IsStep old new round =

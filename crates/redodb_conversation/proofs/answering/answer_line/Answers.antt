@@ -34,8 +34,8 @@ returns-in-Err-clause-talk g c =
     } in
     ok_then c.send_fault.result _ _ c.send_fault.ensures.answered
     (λ sent whole more is start left same talk.
-    fault_goes_on c.args.sync (known_of c.args.live.now) (known_of c.reply.new.live) round whole more
-    is refused done c.reply.new.logged.items c.reply.new.output.items
+    fault_goes_on c.args.sync (known_of c.args.live.now) (known_of c.reply.new.live) round whole
+    more is refused done c.reply.new.logged.items c.reply.new.output.items
     (g.D.Devices.history c.send_fault.new.devices) c.send_fault.new.unsent.logged.items
     c.send_fault.new.unsent.output.items sent start left same
     (same_waiting start left (known_of c.args.live.now) done c.args.unsent.now.logged.items
@@ -70,7 +70,8 @@ returns-in-Ok-clause-more g c = follows_itself (g.D.Devices.history c.args.devic
 pub returns-in-Err-clause-more : goal.returns-in-Err-clause-more
 returns-in-Err-clause-more g c =
     fault_follows c.send_fault.result c.args.sync c.reply.new.logged.items
-    c.send_fault.new.unsent.logged.items c.reply.new.output.items c.send_fault.new.unsent.output.items
+    c.send_fault.new.unsent.logged.items c.reply.new.output.items
+    c.send_fault.new.unsent.output.items
     (fault_text_of (decimal c.without_memory.result.number) c.without_memory.result.word.now)
     (g.D.Devices.history c.args.devices.now) (g.D.Devices.history c.send_fault.new.devices)
     c.send_fault.ensures.answered c.send_fault.ensures.part

@@ -22,11 +22,11 @@ pub returns-in_err-answer_line-clause-broken : goal.returns-in_err-answer_line-c
 returns-in_err-answer_line-clause-broken g c =
     on_err c.from_residual.result _ (λ begun more is.
     c.in_err-answer_line.ensures.broken (begun ++ c.args.piece.now) more
-    (received_behind begun c.args.prefix.now.items c.args.piece.now c.deref.result.now is c.requires.free
-    (c.deref.ensures.value ∙ c.keep.ensures.kept)))
+    (received_behind begun c.args.prefix.now.items c.args.piece.now c.deref.result.now is
+    c.requires.free (c.deref.ensures.value ∙ c.keep.ensures.kept)))
 
 pub returns-clause-talk : goal.returns-clause-talk
 returns-clause-talk g c = λ begun more is.
     c.in_ok-answer_line.ensures.talk (begun ++ c.args.piece.now) more
-    (received_behind begun c.args.prefix.now.items c.args.piece.now c.deref.result.now is c.requires.free
-    (c.deref.ensures.value ∙ c.keep.ensures.kept))
+    (received_behind begun c.args.prefix.now.items c.args.piece.now c.deref.result.now is
+    c.requires.free (c.deref.ensures.value ∙ c.keep.ensures.kept))

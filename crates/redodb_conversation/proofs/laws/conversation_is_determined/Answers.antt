@@ -30,8 +30,8 @@ pub returns-clause-bytes : goal.returns-clause-bytes
 returns-clause-bytes c version base second m n former a b rest last one other
     (k, i, j, (p, begins, first_count)) (l, o, q, (r, starts, second_count)) read room room' no_why =
     let before = history_of former in
-    let received = received_once a b rest last p.talk.are_lines r.talk.are_lines p.unended r.unended read
-    in
+    let received = received_once a b rest last p.talk.are_lines r.talk.are_lines p.unended r.unended
+    read in
     let same = same_rounds a b received
     (rounds_agree before a b p.talk.are_rounds r.talk.are_rounds received room room') no_why in (
       p.output ∙ ap (output_of version former) same ∙ sym r.output,

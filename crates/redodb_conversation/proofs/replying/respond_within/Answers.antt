@@ -8,8 +8,9 @@ pub returns-in-Ok-End-clause-answered : goal.returns-in-Ok-End-clause-answered
 returns-in-Ok-End-clause-answered c =
     let is_end = rw c.in-Ok-End.field-0-is at c.in-Ok-End.ensures in
     ok_then c.end_within.result _ _ c.end_within.ensures.ended (λ is received asks.
-    ended_round c.args.live.now received c.args.session c.end_within.new.self c.args.output.now.items
-    c.end_within.new.output.items c.args.logged.now.items c.end_within.new.logged.items is
+    ended_round c.args.live.now received c.args.session c.end_within.new.self
+    c.args.output.now.items c.end_within.new.output.items c.args.logged.now.items
+    c.end_within.new.logged.items is
     (subst (Asks received c.args.session) is_end asks))
 
 pub returns-in-Ok-End-clause-cause : goal.returns-in-Ok-End-clause-cause
@@ -39,8 +40,8 @@ returns-in-Ok-Inquiry-clause-answered c =
     ok_then c.ask_within.result _ _ c.ask_within.ensures.answered (λ answer received asks.
     inquired_round c.args.live.now received c.args.session c.ask_within.new.live
     c.ask_within.ensures.known c.args.text.now c.in-Ok-Inquiry.inquiry c.in-Ok-Inquiry.name.now
-    answer.0 c.args.output.now.items c.ask_within.new.output.items c.args.logged.now.items asks asks_it.0
-    asks_it.1 answer.1 answer.2)
+    answer.0 c.args.output.now.items c.ask_within.new.output.items c.args.logged.now.items asks
+    asks_it.0 asks_it.1 answer.1 answer.2)
 
 pub returns-in-Ok-Inquiry-clause-cause : goal.returns-in-Ok-Inquiry-clause-cause
 returns-in-Ok-Inquiry-clause-cause c =
