@@ -22,8 +22,8 @@ mod names;
 #[cfg(test)]
 mod records;
 #[cfg(test)]
+mod refusals;
+#[cfg(test)]
 mod retried;
 #[cfg(test)]
 mod served;
-#[cfg(test)]
-mod shared;

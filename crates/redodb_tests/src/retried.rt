@@ -7,7 +7,7 @@ macro_rules! again {
         match $call {
             Some(value) => value,
             None => {
-                redodb_testing::tell($alloc);
+                crate::refusals::tell($alloc);
                 $call.expect($rt, "a second try")
             }
         }

@@ -3,10 +3,10 @@ use crate::gates::Moment;
 use crate::histories::{counted, text_of};
 use crate::order::advance;
 use crate::outcomes::{Run, check_text};
+use crate::plans::planned;
 use crate::schedules::{MOST, lines_of_schedule};
 use redodb_commands::Line;
 use redodb_journal::{Place, Plan};
-use redodb_testing::planned;
 use std::alloc::{AllocError, Global};
 use std::process::Abort;
 

@@ -2,10 +2,11 @@
 use crate::counts::{Counts, check_counts};
 use crate::histories::counted;
 use crate::order::first_schedule;
+use crate::plans::planned;
+use crate::random::Random;
 use crate::schedules::check_schedule;
 use redodb_journal::Plan;
 use redodb_run::{Outcome, run};
-use redodb_testing::{Random, planned};
 use std::alloc::{AllocError, Global};
 use std::process::Abort;
 use std::sync::Wait;

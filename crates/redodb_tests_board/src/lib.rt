@@ -19,6 +19,10 @@ mod order;
 #[cfg(test)]
 mod outcomes;
 #[cfg(test)]
+mod plans;
+#[cfg(test)]
+mod random;
+#[cfg(test)]
 mod schedules;
 #[cfg(test)]
 mod seats;

@@ -4,10 +4,10 @@ ghost use Rattle.redodb_history.specs.Recorded.{AreLinesBelow};
 
 use crate::gates::{Pairs, Pauses};
 use crate::histories::text_of;
+use crate::plans::planned;
 use redodb_board::Gate;
 use redodb_journal::{Entry, Journal, Place, Plan};
 use redodb_run::{Outcome, run, run_text};
-use redodb_testing::planned;
 use std::alloc::{AllocError, Global};
 use std::process::Abort;
 use std::sync::Wait;

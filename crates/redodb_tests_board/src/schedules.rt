@@ -5,11 +5,11 @@ ghost use Rattle.redodb_board.specs.Kept.{IsBoardOf, SitsAt, IsFreshOf, WorksAt}
 use crate::counts::{Counts, check_counts};
 use crate::histories::{in_turn, replays, text_of};
 use crate::order::{advance, first_schedule};
+use crate::plans::planned;
 use crate::seats::{split, worker_of};
 use redodb_board::{Board, Seat, Worker};
 use redodb_commands::Line;
 use redodb_journal::{Entry, Journal, Place, Plan};
-use redodb_testing::planned;
 use std::alloc::{AllocError, Global};
 use std::process::Abort;
 

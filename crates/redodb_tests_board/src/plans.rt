@@ -1,3 +1,4 @@
+//! Plans of texts.
 use redodb_io::Watched;
 use redodb_journal::Plan;
 use redodb_names::Names;
@@ -6,7 +7,7 @@ use redodb_text::Fault;
 use std::alloc::{AllocError, Global};
 
 /// The files, as readers.
-pub fn readers<'a>(alloc: Global, files: &[&'a str]) -> Result<Vec<Watched<&'a [u8]>>, AllocError> {
+fn readers<'a>(alloc: Global, files: &[&'a str]) -> Result<Vec<Watched<&'a [u8]>>, AllocError> {
     let mut readers = Vec::new(alloc);
     for file in files {
         readers.push(Watched::new(file.as_bytes()))?;
@@ -15,7 +16,7 @@ pub fn readers<'a>(alloc: Global, files: &[&'a str]) -> Result<Vec<Watched<&'a [
 }
 
 /// The plan of sessions with these files; none if a file is faulty, or there is none or too many.
-pub fn planned(alloc: Global, files: &[&str]) -> Result<Option<Plan>, AllocError> {
+pub(crate) fn planned(alloc: Global, files: &[&str]) -> Result<Option<Plan>, AllocError> {
     let mut readers = readers(alloc, files)?;
     let mut names = Names::new(alloc);
     match read_files(alloc, &mut readers, &mut names) {

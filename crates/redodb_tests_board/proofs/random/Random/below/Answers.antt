@@ -1,6 +1,6 @@
 use Rattle.std.proofs.Common.{◌%◌, ℕ, ap, ◌∙◌}
 use Rattle.rand_xoshiro.specs.SplitMix64.{mix_u64}
-use Rattle.redodb_testing.proofs.random.Random.below.Goals as goal
+use Rattle.redodb_tests_board.proofs.random.Random.below.Goals as goal
 
 pub returns-clause-number : goal.returns-clause-number
 returns-clause-number c = ap (λ (step : ℕ × ℕ). step.0 % c.args.count) c.next_word.ensures
