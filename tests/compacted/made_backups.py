@@ -260,8 +260,18 @@ class MadeBackups:
                     number += 1
                 self.checks.check(f"{call}: some failed", number > 1, True)
 
+    def of_a_private_log(self) -> None:
+        """Who may not read the log may not read its backup."""
+        for mode in 0o600, 0o640, 0o644:
+            self.clear()
+            self.log.write_text(TEXT)
+            self.log.chmod(mode)
+            self.back_up(self.copy)
+            self.checks.check(f"mode {mode:o}", self.copy.stat().st_mode & 0o777, mode)
+
     def all(self) -> None:
         self.of_logs()
+        self.of_a_private_log()
         self.of_a_backup()
         self.of_a_log_in_use()
         self.damaged()

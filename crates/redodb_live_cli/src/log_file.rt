@@ -151,12 +151,13 @@ impl<'a> LogFile<'a> {
         }
     }
 
-    /// Copies another log to the file, which has no bytes yet, and syncs its folder. Returns whether the log still begins
-    /// with what was copied.
+    /// Copies another log to the file, which has no bytes yet and may be read by whom that log may be read, and syncs its
+    /// folder. Returns whether the log still begins with what was copied.
     pub fn fill(&mut self, rt: &HostRuntime, log: &File) -> io::Result<bool> {
         let Some(file) = &mut self.file else {
             return Ok(true);
         };
+        file.set_permissions(log.metadata()?.permissions())?;
         sync_folder(rt, self.name)?;
         copy_beginning(log, file)
     }
