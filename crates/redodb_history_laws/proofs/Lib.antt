@@ -19,3 +19,8 @@ pub mod Replayed
 pub mod JournalByName
 pub mod OnlySo
 pub mod ByHand
+pub mod Changed
+pub mod Computed
+pub mod Digests
+pub mod Legal
+pub mod Tests

@@ -5,3 +5,4 @@ pub mod Replayed
 pub mod Events
 pub mod Named
 pub mod Worked
+pub mod WorkedHistories

@@ -9,5 +9,6 @@ pub mod renaming;
 mod row_word;
 pub mod words;
 pub mod worked;
+pub mod worked_histories;
 
 pub use row_word::RowWord;

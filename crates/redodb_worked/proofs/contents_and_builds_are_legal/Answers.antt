@@ -1,5 +1,0 @@
-use Rattle.redodb_worked.proofs.Legal.{contents_and_builds_legal}
-use Rattle.redodb_worked.proofs.contents_and_builds_are_legal.Goals as goal
-
-pub returns : goal.returns
-returns c = contents_and_builds_legal

@@ -1,5 +1,0 @@
-use Rattle.redodb_worked.proofs.Legal.{names_without_a_file_legal}
-use Rattle.redodb_worked.proofs.names_without_a_file_is_legal.Goals as goal
-
-pub returns : goal.returns
-returns c = names_without_a_file_legal

@@ -1,5 +1,0 @@
-use Rattle.redodb_worked.proofs.Legal.{rows_of_both_kinds_legal}
-use Rattle.redodb_worked.proofs.rows_of_both_kinds_are_legal.Goals as goal
-
-pub returns : goal.returns
-returns c = rows_of_both_kinds_legal
