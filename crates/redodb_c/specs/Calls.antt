@@ -6,11 +6,10 @@ use Rattle.redodb_live.specs.Support.LiveState.{LiveState, IsAsKnown, state_in}
 use Rattle.redodb_log.specs.Logs.{HasPast, Past}
 use Rattle.redodb_log.specs.Restores.{IsRestored, DiffersAt, HasTooMany}
 use Rattle.redodb_log.specs.declared.restoring.Restored.{Restored}
-use Rattle.redodb_conversation.specs.Rounds.{Round}
+use Rattle.redodb_keeping.specs.Rounds.{Round}
 use Rattle.redodb_conversation.specs.Logs.{logged_of}
-use Rattle.redodb_conversation.specs.Support.Places.{known_of}
+use Rattle.redodb_keeping.specs.Support.Steps.{known_of, Known}
 use Rattle.redodb_conversation.specs.Support.Replies.{IsReplied, LogsPrefix, WouldReply}
-use Rattle.redodb_conversation.specs.Support.Steps.{Known}
 use Rattle.redodb_conversation.specs.declared.replying.Replied.{Replied}
 use Rattle.redodb_conversation.specs.declared.replying.Replied.TheVariants.{Done, Fault}
 use Rattle.redodb_c.specs.declared.answering.AnswerSizes.{AnswerSizes}

@@ -5,7 +5,7 @@ use Rattle.redodb_model.specs.Names.{Text}
 use Rattle.redodb_history.specs.HistoryFaults.{IsSessionWord}
 use Rattle.redodb_history.specs.Support.HistoryFaults.{IsCutAt}
 use Rattle.redodb_history.proofs.TextCuts.{one_cut, no_byte_in_decimal}
-use Rattle.redodb_conversation.specs.Rounds.{Asks, HasNoSession}
+use Rattle.redodb_keeping.specs.Rounds.{Asks, HasNoSession}
 
 pub asks_at_space : (received : Text) (s : ℕ) (text : Text) → Asks received s text
     → received ≡ decimal (s + 1) ++ 32 ∷ text

@@ -3,14 +3,15 @@ use Rattle.std.proofs.Common.{◌≡◌, ◌⊎◌, ℕ, Bool, true, false, cond
 use Rattle.std.specs.Prelude.{Result, Ok, Err, OnOk, OnErr, IsSomeAnd}
 use Rattle.redodb_model.specs.Names.{Text}
 use Rattle.redodb_log.specs.Operations.{Operation, Append, Cut, Copy, Replace, Sync, Revert, Write, LogFailed, OutputFailed}
-use Rattle.redodb_conversation.specs.Support.Opening.{HasGoneOn, HasGoneOnInPart, after_cut}
-use Rattle.redodb_conversation.specs.Support.Sending.{IsFollowedBy, IsKeptBack, IsSent, IsSentInPart, IsFaultSentInPart, after_logging, sent_after, IsSendCause}
+use Rattle.redodb_keeping.specs.Support.Opening.{after_cut}
+use Rattle.redodb_conversation.specs.Support.Opening.{HasGoneOn, HasGoneOnInPart}
+use Rattle.redodb_keeping.specs.Support.Sending.{IsFollowedBy, IsKeptBack, IsSent, IsSentInPart, IsFaultSentInPart, after_logging, sent_after, IsSendCause}
 use Rattle.redodb_conversation.specs.Support.Talking.{IsTalkFault}
 use Rattle.redodb_conversation.specs.declared.opening.Opened.{Opened}
-use Rattle.redodb_conversation.specs.declared.opening.Rest.{Rest}
-use Rattle.redodb_conversation.specs.declared.opening.Rest.TheVariants.{Nothing, Torn, Damaged}
-use Rattle.redodb_conversation.specs.declared.fault.ServeFault.{ServeFault}
-use Rattle.redodb_conversation.specs.declared.fault.ServeFault.TheVariants.{Log, Write as WriteFault}
+use Rattle.redodb_keeping.specs.declared.restoring.Rest.{Rest}
+use Rattle.redodb_keeping.specs.declared.restoring.Rest.TheVariants.{Nothing, Torn, Damaged}
+use Rattle.redodb_keeping.specs.declared.fault.ServeFault.{ServeFault}
+use Rattle.redodb_keeping.specs.declared.fault.ServeFault.TheVariants.{Log, Write as WriteFault}
 
 pub follows_itself : (done : List Operation) → IsFollowedBy done done
 follows_itself done = ([], refl)

@@ -5,7 +5,7 @@ use Rattle.redodb_model.specs.Names.{Text}
 use Rattle.redodb_history.specs.Histories.{ended}
 use Rattle.redodb_history.proofs.TextCuts.{one_cut, has_lf}
 use Rattle.redodb_conversation.specs.Logs.{HasNoEnd}
-use Rattle.redodb_conversation.specs.Rounds.{Round, received_in}
+use Rattle.redodb_keeping.specs.Rounds.{Round, received_in}
 use Rattle.redodb_conversation.specs.Talks.{AreLines}
 
 -- a line at the beginning

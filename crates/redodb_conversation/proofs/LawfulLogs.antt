@@ -24,7 +24,7 @@ use Rattle.redodb_log.specs.Operations.{IsPrefix}
 use Rattle.redodb_log.proofs.CutLogs.{IsCutLog, cut_behind}
 use Rattle.redodb_log.proofs.Grown.{all_parts, legal_parts, own_names}
 use Rattle.redodb_log.proofs.Stepping.{text_has_lf}
-use Rattle.redodb_conversation.proofs.LawfulLines.{OfNames, all_names, names_known}
+use Rattle.redodb_keeping.proofs.LawfulLines.{OfNames, all_names, names_known}
 
 one_changing : (P : Line Text → Type 0) (b : Bool) (line : Line Text) (lines : List (Line Text))
     → P line → AllByRecursion P lines → AllByRecursion P (cond b (line ∷ []) [] ++ lines)

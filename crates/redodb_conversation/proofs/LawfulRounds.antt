@@ -23,9 +23,9 @@ use Rattle.redodb_text.proofs.LineLaws.{one_command}
 use Rattle.redodb_history.specs.Histories.{line_text_of}
 use Rattle.redodb_live.specs.Answers.{Answer, Cause, Rows, Uses, Standing, IsAnswer, answer_line, inquiry_of, names_line}
 use Rattle.redodb_live.specs.Lines.{names_after}
-use Rattle.redodb_conversation.specs.Rounds.{Round, IsAnswered, IsEnded, IsInquired, IsListed, IsFaulty, Asks, IsFaultWord, end_text_of, end_word, fault_text_of, names_word}
+use Rattle.redodb_keeping.specs.Rounds.{Round, IsAnswered, IsEnded, IsInquired, IsListed, IsFaulty, Asks, IsFaultWord, end_text_of, end_word, fault_text_of, names_word}
 use Rattle.redodb_conversation.specs.Support.Laws.{Agrees, AsksWhy, HasSufficed}
-use Rattle.redodb_conversation.specs.Support.Steps.{IsFaultLine}
+use Rattle.redodb_keeping.specs.Support.Steps.{IsFaultLine}
 use Rattle.redodb_conversation.proofs.LawfulTexts.{asks_one, one_inquiry}
 
 -- what is closed after a session's own lines

@@ -9,7 +9,7 @@ use Rattle.std.proofs.lemmas.Slice.Eq.{starts_is}
 use Rattle.redodb_model.specs.Names.{Text}
 use Rattle.redodb_model.specs.Reply.{Okay}
 use Rattle.redodb_model.specs.History.{Line, part_of}
-use Rattle.redodb_conversation.specs.Rounds.{Round, Asks, IsRound, AreRounds, lines_in}
+use Rattle.redodb_keeping.specs.Rounds.{Round, Asks, IsRound, AreRounds, lines_in}
 use Rattle.redodb_conversation.specs.Support.Laws.{rounds_of}
 use Rattle.redodb_conversation.proofs.LawfulTexts.{asks_one}
 

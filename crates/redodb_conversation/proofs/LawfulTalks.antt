@@ -11,12 +11,13 @@ use Rattle.redodb_log.specs.Operations.{Operation, IsPrefix, IsAlways, held_afte
 use Rattle.redodb_log.proofs.CutLogs.{cut_log}
 use Rattle.redodb_log.proofs.Grown.{logged_prefix}
 use Rattle.redodb_conversation.specs.Logs.{logged_of}
-use Rattle.redodb_conversation.specs.Rounds.{Round, lines_in}
-use Rattle.redodb_conversation.specs.Talks.{Former, AreRestored, IsBegun, IsConversation, IsBase, IsFirstLog, IsLoggedFirst, IsTalk, found_in, found_log, history_of, lines_after, output_of, state_after}
+use Rattle.redodb_keeping.specs.Rounds.{Round, lines_in}
+use Rattle.redodb_keeping.specs.Openings.{AreRestored}
+use Rattle.redodb_conversation.specs.Talks.{Former, IsBegun, IsConversation, IsBase, IsFirstLog, IsLoggedFirst, IsTalk, found_in, found_log, history_of, lines_after, output_of, state_after}
 use Rattle.redodb_conversation.specs.Support.Laws.{AreLoggedBy, IsLogBehind, IsLogUpTo, RestoresFormer, RestoresAnswered, logged_after}
 use Rattle.redodb_conversation.specs.declared.keeping.Keeping.{Keeping}
-use Rattle.redodb_conversation.proofs.EndedAll.{ends_are_rounds}
-use Rattle.redodb_conversation.proofs.LawfulLines.{rounds_said, rounds_names}
+use Rattle.redodb_keeping.proofs.EndedAll.{ends_are_rounds}
+use Rattle.redodb_keeping.proofs.LawfulLines.{rounds_said, rounds_names}
 use Rattle.redodb_conversation.proofs.Moments.{always_then, lines_after_more, prefix_trans, text_more}
 use Rattle.redodb_conversation.proofs.LawfulLogs.{HasFirst, changing_fewer, changing_first, changing_leaves, changing_logged, cut_has, log_text, whole_log}
 

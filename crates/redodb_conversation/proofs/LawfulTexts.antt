@@ -20,7 +20,7 @@ use Rattle.redodb_text.proofs.Spaced.{IsVisible, line_is_spaced, words_of-first}
 use Rattle.redodb_history.proofs.CutOnce.{first_cut}
 use Rattle.redodb_history.proofs.FreeWords.{decimal_is_visible}
 use Rattle.redodb_history.proofs.HistoryLines.{number_is_without}
-use Rattle.redodb_conversation.specs.Rounds.{Asks, end_word, names_word}
+use Rattle.redodb_keeping.specs.Rounds.{Asks, end_word, names_word}
 use Rattle.redodb_conversation.proofs.Asking.{asks_at_space}
 
 -- a line names one session and has one text

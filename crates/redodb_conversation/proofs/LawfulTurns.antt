@@ -9,7 +9,7 @@ use Rattle.redodb_text.specs.Inquiries.{asked_fault, inquiry_text_of, inquiry_wo
 use Rattle.redodb_text.proofs.FaultOrCommand.{no_fault_in_a_line}
 use Rattle.redodb_text.proofs.Inquired.{asked_of_command}
 use Rattle.redodb_live.specs.Lines.{names_after}
-use Rattle.redodb_conversation.specs.Rounds.{Round, IsRound, IsAnswered, IsEnded, IsInquired, IsListed, IsFaulty, AreRounds, Asks, end_word, names_word}
+use Rattle.redodb_keeping.specs.Rounds.{Round, IsRound, IsAnswered, IsEnded, IsInquired, IsListed, IsFaulty, AreRounds, Asks, end_word, names_word}
 use Rattle.redodb_conversation.specs.Support.Laws.{Agree, Agrees, AsksWhy, HasSufficed}
 use Rattle.redodb_log.proofs.Grown.{names_after-append}
 use Rattle.redodb_conversation.proofs.LawfulRounds.{answered_agree, ended_agree, inquired_agree, listed_agree, faulty_agree, has_fault, HasFault, FaultCause}

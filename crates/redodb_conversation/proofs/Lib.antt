@@ -1,4 +1,3 @@
-pub mod Led
 pub mod RoundByRound
 pub mod LongLines
 pub mod LongQuestions
@@ -17,7 +16,6 @@ pub mod Unanswered
 pub mod Talked
 pub mod Served
 pub mod LawfulBytes
-pub mod LawfulLines
 pub mod LawfulHistories
 pub mod LawfulLogs
 pub mod LawfulTalks
@@ -25,10 +23,9 @@ pub mod LawfulTexts
 pub mod LawfulSessions
 pub mod LawfulRounds
 pub mod LawfulTurns
-pub mod OpeningKept
 pub mod OpeningDone
 pub mod OpeningEnds
 pub mod WholeOperations
 pub mod OpeningMoments
 pub mod OpeningFirst
-pub mod EndedAll
+pub mod DumpedPast

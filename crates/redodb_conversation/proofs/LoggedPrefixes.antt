@@ -5,10 +5,10 @@ use Rattle.redodb_model.specs.History.{Line}
 use Rattle.redodb_model.specs.Changes.{changes}
 use Rattle.redodb_history.specs.Histories.{line_text_of}
 use Rattle.redodb_live.specs.Lines.{lines_text_of}
-use Rattle.redodb_conversation.specs.Rounds.{Round, end_text_of}
+use Rattle.redodb_keeping.specs.Rounds.{Round, end_text_of}
 use Rattle.redodb_conversation.specs.Logs.{logged_of}
 use Rattle.redodb_conversation.specs.Support.Replies.{LogsPrefix}
-use Rattle.redodb_conversation.specs.Support.Steps.{Known, Answering, Ending, IsStep}
+use Rattle.redodb_keeping.specs.Support.Steps.{Known, Answering, Ending, IsStep}
 use Rattle.redodb_conversation.proofs.Steps.{all_change}
 
 one_prefix : (line : Line Text) (b : Bool)

@@ -8,8 +8,8 @@ use Rattle.std.proofs.lemmas.List.{take_all, length-take-le, take-append-drop}
 use Rattle.redodb_model.specs.Names.{Text}
 use Rattle.redodb_text.specs.Inquiries.{inquiry_text_of}
 use Rattle.redodb_text.proofs.Inquired.{asked_when_long, fits_is_short}
-use Rattle.redodb_conversation.specs.Rounds.{Round, Asks, IsFaultWord, end_word, names_word}
-use Rattle.redodb_conversation.specs.Support.Steps.{Known, Refusing, IsStep, IsFaultLine}
+use Rattle.redodb_keeping.specs.Rounds.{Round, Asks, IsFaultWord, end_word, names_word}
+use Rattle.redodb_keeping.specs.Support.Steps.{Known, Refusing, IsStep, IsFaultLine}
 use Rattle.redodb_conversation.specs.Support.KeptLines.{kept_of}
 use Rattle.redodb_conversation.proofs.LongQuestions.{no_question_in_more}
 

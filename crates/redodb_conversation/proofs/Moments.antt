@@ -8,10 +8,10 @@ use Rattle.redodb_model.proofs.OneMore.{left_by-append}
 use Rattle.redodb_log.specs.Operations.{Operation, Append, Sync, Write, LogFailed, OutputFailed, HasNoFailure, IsPrefix, IsAlways, held_after, is_copy, written_by}
 use Rattle.redodb_log.specs.Restores.{IsDamagedAfter}
 use Rattle.redodb_conversation.specs.Logs.{HasNoEnd, logged_of}
-use Rattle.redodb_conversation.specs.Rounds.{Round, lines_in, output_in}
+use Rattle.redodb_keeping.specs.Rounds.{Round, lines_in, output_in}
 use Rattle.redodb_conversation.specs.Talks.{Former, AreLines, BeginsBy, HasNoCopy, IsLogAfter, IsSalvaged, history_of, lines_after, output_of, greeting_of, state_after}
 use Rattle.redodb_conversation.specs.Support.Moments.{Start, IsSafe}
-use Rattle.redodb_conversation.specs.Support.Sending.{after_logging}
+use Rattle.redodb_keeping.specs.Support.Sending.{after_logging}
 use Rattle.redodb_conversation.proofs.RoundByRound.{logged-append}
 
 pub prefix_self : (bytes : Text) → IsPrefix bytes bytes

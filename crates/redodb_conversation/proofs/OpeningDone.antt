@@ -1,8 +1,10 @@
 -- What was done when a log was opened and greeted, or when that failed.
 use Rattle.std.proofs.Common.{◌≡◌, ◌⊎◌, Bool, true, false, cond, List, [], ◌∷◌, take, refl, sym, ap, ◌∙◌, subst, inl, inr}
+use Rattle.std.specs.Prelude.{IsSomeAnd}
 use Rattle.redodb_model.specs.Names.{Text}
-use Rattle.redodb_log.specs.Operations.{Operation, Read, Cut, Sync, Copy, Write, LogFailed, OutputFailed, IsPrefix}
-use Rattle.redodb_conversation.specs.Support.Opening.{HasGoneOn, HasGoneOnInPart, IsRest, BeginsAt, BeginsInPart, IsCutInPart, after_cut}
+use Rattle.redodb_log.specs.Operations.{Operation, Read, Append, Cut, Sync, Copy, Replace, Write, LogFailed, OutputFailed, IsPrefix}
+use Rattle.redodb_keeping.specs.Support.Opening.{IsRest, IsCutInPart, after_cut}
+use Rattle.redodb_conversation.specs.Support.Opening.{HasGoneOn, HasGoneOnInPart, BeginsAt, BeginsInPart}
 use Rattle.redodb_conversation.specs.declared.opening.Opened.{Opened}
 use Rattle.redodb_conversation.proofs.Following.{gone_follows, gone_part_follows, one_follows, synced_follows}
 use Rattle.redodb_conversation.proofs.OpeningFirst.{first_of, gone_in_part, unsettled}
@@ -14,6 +16,24 @@ pub synced_then : (sync : Bool) (done now : List Operation)
     → now ≡ cond sync (Sync ∷ done) done
 synced_then sync done now (inl (is, e)) = e ∙ ap (λ b. cond b (Sync ∷ done) done) (sym is)
 synced_then sync done now (inr (is, e)) = e ∙ ap (λ b. cond b (Sync ∷ done) done) (sym is)
+
+module _ (opened : Opened) (lines : Text) (same : lines ≡ opened.logged.items)
+    (done done_after : List Operation)
+  where
+    -- the dump took the place of the log, or the lines were appended
+    pub has_gone_on : (replaced : Bool)
+        → (replaced ≡ true
+        → IsSomeAnd opened.dump (λ dump. done_after ≡ Replace dump.items ∷ done))
+        → (replaced ≡ false → done_after ≡ Append lines ∷ done) → HasGoneOn opened done done_after
+    has_gone_on true took left = inr (took refl)
+    has_gone_on false took left = inl (left refl ∙ ap (λ (t : Text). Append t ∷ done) same)
+
+    pub has_gone_in_part : ((part : Text) × IsPrefix part lines
+        × (done_after ≡ LogFailed ∷ Append part ∷ done))
+        ⊎ IsSomeAnd opened.dump (λ dump. done_after ≡ LogFailed ∷ Replace dump.items ∷ done)
+        → HasGoneOnInPart opened done done_after
+    has_gone_in_part (inl (part, is, e)) = inl (part, subst (IsPrefix part) same is, e)
+    has_gone_in_part (inr took) = inr took
 
 module _ (sync salvage : Bool) (version bytes : Text) (opened : Opened) (done : List Operation)
   where

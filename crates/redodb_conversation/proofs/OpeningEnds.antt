@@ -8,11 +8,11 @@ use Rattle.redodb_live.specs.Support.LiveState.{LiveState}
 use Rattle.redodb_live.specs.Lines.{lines_text_of}
 use Rattle.redodb_log.specs.Logs.{Past, past_lines, head_of, log_header, AreLogged, IsPast}
 use Rattle.redodb_log.specs.Operations.{IsPrefix}
-use Rattle.redodb_conversation.specs.Rounds.{lines_in}
-use Rattle.redodb_conversation.specs.Support.Places.{known_of}
-use Rattle.redodb_conversation.specs.Support.Steps.{LeadsTo}
-use Rattle.redodb_conversation.specs.Support.Opening.{AreKept, IsKeptFrom, EndsAll, IsOpenedFrom}
-use Rattle.redodb_conversation.specs.declared.opening.Kept.{Kept}
+use Rattle.redodb_keeping.specs.Rounds.{lines_in}
+use Rattle.redodb_keeping.specs.Support.Steps.{known_of, LeadsTo}
+use Rattle.redodb_keeping.specs.Support.Opening.{AreKept, IsKeptFrom, EndsAll}
+use Rattle.redodb_conversation.specs.Support.Opening.{IsOpenedFrom}
+use Rattle.redodb_keeping.specs.declared.restoring.Kept.{Kept}
 use Rattle.redodb_conversation.specs.declared.opening.Opened.{Opened}
 
 -- the log gets a header if it has none

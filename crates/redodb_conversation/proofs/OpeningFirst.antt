@@ -7,10 +7,11 @@ use Rattle.redodb_live.specs.Support.LiveState.{calls_in}
 use Rattle.redodb_log.specs.Logs.{Past}
 use Rattle.redodb_log.specs.Restores.{IsDamagedAfter}
 use Rattle.redodb_log.specs.Operations.{Operation, Read, Cut, Copy, Replace, LogFailed, StopsAtFailure, IsAlways}
-use Rattle.redodb_conversation.specs.Rounds.{lines_in}
+use Rattle.redodb_keeping.specs.Rounds.{lines_in}
 use Rattle.redodb_conversation.specs.Talks.{BeginsBy, IsFirstLog, found_log}
 use Rattle.redodb_conversation.specs.Support.Moments.{IsSafe}
-use Rattle.redodb_conversation.specs.Support.Opening.{HasGoneOn, HasGoneOnInPart, IsOpenedFrom, after_cut, start_of}
+use Rattle.redodb_keeping.specs.Support.Opening.{after_cut}
+use Rattle.redodb_conversation.specs.Support.Opening.{HasGoneOn, HasGoneOnInPart, IsOpenedFrom, start_of}
 use Rattle.redodb_conversation.specs.declared.opening.Opened.{Opened}
 use Rattle.redodb_conversation.proofs.OpeningMoments.{HoldsFirst, append_failed, is_appended, is_replaced, settle_failed, sync_failed}
 

@@ -9,15 +9,16 @@ use Rattle.redodb_live.specs.Support.LiveState.{calls_in}
 use Rattle.redodb_log.specs.Logs.{Past}
 use Rattle.redodb_log.specs.Restores.{IsDamagedAfter}
 use Rattle.redodb_log.specs.Operations.{Operation, Read, Append, Cut, Sync, Copy, Replace, Write, LogFailed, OutputFailed, HasNoFailure, StopsAtFailure, held_after, written_by, IsPrefix, IsAlways}
-use Rattle.redodb_conversation.specs.Rounds.{lines_in}
+use Rattle.redodb_keeping.specs.Rounds.{lines_in}
 use Rattle.redodb_conversation.specs.Talks.{BeginsBy, IsLogAfter, found_log, greeting_of}
 use Rattle.redodb_conversation.specs.Support.Moments.{Start, IsSafe, IsUnderWay}
-use Rattle.redodb_conversation.specs.Support.Opening.{IsRest, IsOpenedFrom, after_cut, start_of}
-use Rattle.redodb_conversation.specs.Support.Places.{known_of}
+use Rattle.redodb_keeping.specs.Support.Opening.{IsRest, after_cut}
+use Rattle.redodb_conversation.specs.Support.Opening.{IsOpenedFrom, start_of}
+use Rattle.redodb_keeping.specs.Support.Steps.{known_of}
 use Rattle.redodb_conversation.specs.Support.Talking.{nothing}
 use Rattle.redodb_conversation.specs.declared.opening.Opened.{Opened}
-use Rattle.redodb_conversation.specs.declared.opening.Rest.{Rest}
-use Rattle.redodb_conversation.specs.declared.opening.Rest.TheVariants.{Nothing, Torn, Damaged}
+use Rattle.redodb_keeping.specs.declared.restoring.Rest.{Rest}
+use Rattle.redodb_keeping.specs.declared.restoring.Rest.TheVariants.{Nothing, Torn, Damaged}
 use Rattle.redodb_conversation.proofs.WholeOperations.{always_whole}
 use Rattle.redodb_conversation.proofs.Moments.{begins_more, log_at_first, prefix_self, prefix_trans, append_always, write_always}
 

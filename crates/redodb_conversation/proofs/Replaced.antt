@@ -6,15 +6,15 @@ use Rattle.redodb_model.specs.History.{Line}
 use Rattle.redodb_live.specs.Support.LiveState.{LiveState}
 use Rattle.redodb_log.specs.Logs.{AreLogged}
 use Rattle.redodb_log.specs.Operations.{Operation, Replace, LogFailed, IsAlways, written_by}
-use Rattle.redodb_conversation.specs.Rounds.{Round, received_in}
+use Rattle.redodb_keeping.specs.Rounds.{Round, received_in}
 use Rattle.redodb_conversation.specs.Talks.{AreLines, IsLogAfter, history_of, lines_after, output_of}
 use Rattle.std.specs.Io.KnownBytes.{Consumes}
 use Rattle.redodb_conversation.specs.Support.Moments.{Start, Moment, IsBrokenOff, IsSafe, IsUnderWay, known_first}
-use Rattle.redodb_conversation.specs.Support.Places.{BreaksOff, GoesOn, idle_place, known_of, moment_at}
-use Rattle.redodb_conversation.specs.Support.Steps.{AreSteps, LeadsTo}
+use Rattle.redodb_keeping.specs.Support.Steps.{known_of, AreSteps, LeadsTo}
+use Rattle.redodb_conversation.specs.Support.Places.{BreaksOff, GoesOn, idle_place, moment_at}
 use Rattle.redodb_conversation.specs.Support.Talking.{nothing}
-use Rattle.redodb_conversation.proofs.LawfulLines.{rounds_said, rounds_names}
-use Rattle.redodb_conversation.proofs.Led.{steps_are_rounds, steps_lead}
+use Rattle.redodb_keeping.proofs.LawfulLines.{rounds_said, rounds_names}
+use Rattle.redodb_keeping.proofs.Led.{steps_are_rounds, steps_lead}
 use Rattle.redodb_conversation.proofs.UnderWay.{output_whole}
 use Rattle.redodb_conversation.proofs.Moments.{begins_more, log_failed_safe, prefix_of_either, prefix_of_same, prefix_self}
 use Rattle.redodb_conversation.proofs.OpeningEnds.{IsDumpOf}

@@ -3,11 +3,11 @@ use Rattle.std.proofs.Common.{◌≡◌, ◌⊎◌, Bool, List, [], ◌++◌, Op
 use Rattle.redodb_model.specs.Names.{Text}
 use Rattle.redodb_history.specs.Histories.{ended}
 use Rattle.redodb_log.specs.Operations.{Operation}
-use Rattle.redodb_conversation.specs.Rounds.{Round}
+use Rattle.redodb_keeping.specs.Rounds.{Round}
 use Rattle.redodb_conversation.specs.Logs.{logged_of}
-use Rattle.redodb_conversation.specs.Support.Steps.{Known, Refusing, IsStep}
+use Rattle.redodb_keeping.specs.Support.Steps.{Known, Refusing, IsStep}
 use Rattle.redodb_conversation.specs.Support.Moments.{Start, Moment, IsUnderWay, IsBrokenOff}
-use Rattle.redodb_conversation.specs.Support.Sending.{IsKeptBack, IsSent, IsSentInPart, IsFaultSentInPart, sent_after}
+use Rattle.redodb_keeping.specs.Support.Sending.{IsKeptBack, IsSent, IsSentInPart, IsFaultSentInPart, sent_after}
 use Rattle.redodb_conversation.specs.Support.KeptLines.{IsReceivedOf}
 use Rattle.redodb_conversation.specs.Support.Places.{Place, GoesOn, BreaksOff, TalksAt, moment_at}
 use Rattle.redodb_conversation.proofs.LongLines.{step_of_whole}

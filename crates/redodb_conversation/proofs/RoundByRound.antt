@@ -10,9 +10,9 @@ use Rattle.redodb_model.proofs.OneMore.{left_by-append}
 use Rattle.redodb_model.proofs.Unchanging.{changing_from-append}
 use Rattle.redodb_history.specs.Histories.{line_text_of}
 use Rattle.redodb_live.specs.Lines.{lines_text_of}
-use Rattle.redodb_conversation.specs.Rounds.{Round, lines_in}
+use Rattle.redodb_keeping.specs.Rounds.{Round, lines_in}
 use Rattle.redodb_conversation.specs.Logs.{logged_of}
-use Rattle.redodb_conversation.specs.Support.Steps.{Known, IsStep, AreSteps}
+use Rattle.redodb_keeping.specs.Support.Steps.{Known, IsStep, AreSteps}
 
 -- one step more
 pub steps_more : (old middle new : Known) (rounds : List Round) (round : Round)

@@ -24,16 +24,16 @@ use Rattle.redodb_live.specs.declared.fault.Unanswered.{Unanswered as Why}
 use Rattle.redodb_live.specs.declared.fault.Unanswered.TheVariants.{Memory, Worn, Fault}
 use Rattle.redodb_live.specs.declared.fault.AnswerFault.{AnswerFault}
 use Rattle.redodb_live.specs.declared.fault.AnswerFault.TheVariants.{Unanswered, TooLong}
-use Rattle.redodb_conversation.specs.Rounds.{Round, Asks, IsFaultWord, end_word, end_text_of, names_word}
-use Rattle.redodb_conversation.specs.Support.Sending.{refusal_word_of}
+use Rattle.redodb_keeping.specs.Rounds.{Round, Asks, IsFaultWord, end_word, end_text_of, names_word}
+use Rattle.redodb_keeping.specs.Support.Sending.{refusal_word_of}
 use Rattle.redodb_conversation.specs.declared.replying.Replied.TheVariants as replies
-use Rattle.redodb_conversation.specs.Support.Steps.{Known, Answering, Ending, IsFaultLine, Refusing, IsStep}
-use Rattle.redodb_conversation.specs.Support.Places.{known_of}
+use Rattle.redodb_keeping.specs.Support.Steps.{Known, Answering, Ending, IsFaultLine, Refusing, IsStep, known_of}
 use Rattle.redodb_conversation.specs.Support.Requests.{Requests, RequestsBadly}
 use Rattle.redodb_conversation.specs.declared.request.Request.TheVariants as requests
 use Rattle.redodb_conversation.specs.Support.Replies.{IsReplied, AppendsRound, WouldReply, IsPutOffFor, IsUndoneFor, IsInquiryFaultFor}
 use Rattle.redodb_conversation.proofs.LoggedPrefixes.{logs_prefix}
-use Rattle.redodb_conversation.proofs.Steps.{all_change, as_known, held_are_known, one_logged}
+use Rattle.redodb_keeping.proofs.HeldNames.{held_are_known}
+use Rattle.redodb_conversation.proofs.Steps.{all_change, as_known, one_logged}
 
 pub done_is_step : (old new : Known) (round : Round) → IsReplied replies.Done old new round
     → IsStep old new round

@@ -8,20 +8,21 @@ use Rattle.redodb_live.specs.Support.LiveState.{calls_in}
 use Rattle.redodb_log.specs.Logs.{Past, HasPast}
 use Rattle.redodb_log.specs.Operations.{Operation, Read as ReadLog, OutputFailed, HasNoFailure, StopsAtFailure, IsAlways, held_after}
 use Rattle.redodb_io.proofs.Counts.{same_count}
-use Rattle.redodb_conversation.specs.Causes.{AnsweredAll, TalkedSoFar, IsServeCause, IsUnchanged, output_failed}
-use Rattle.redodb_conversation.specs.Rounds.{Round}
+use Rattle.redodb_keeping.specs.Failures.{output_failed}
+use Rattle.redodb_conversation.specs.Causes.{AnsweredAll, TalkedSoFar, IsServeCause, IsUnchanged}
+use Rattle.redodb_keeping.specs.Rounds.{Round}
 use Rattle.redodb_conversation.specs.Talks.{Former, HasFound, BeginsBy, IsConversation, IsFirstLog, IsLogAfter, IsTalk, history_of, output_of}
 use Rattle.redodb_conversation.specs.declared.keeping.Keeping.{Keeping}
 use Rattle.redodb_conversation.specs.Support.Moments.{Start, Moment, IsBrokenOff, IsSafe, known_first}
-use Rattle.redodb_conversation.specs.Support.Opening.{BeginsAt, BeginsInPart, IsOpenCause, IsOpenedFrom, start_of}
-use Rattle.redodb_conversation.specs.Support.Places.{known_of}
-use Rattle.redodb_conversation.specs.Support.Sending.{IsFollowedBy, IsSendCause}
-use Rattle.redodb_conversation.specs.Support.Steps.{Known, LeadsTo}
+use Rattle.redodb_keeping.specs.Support.Opening.{IsOpenCause}
+use Rattle.redodb_conversation.specs.Support.Opening.{BeginsAt, BeginsInPart, IsOpenedFrom, start_of}
+use Rattle.redodb_keeping.specs.Support.Steps.{known_of, Known, LeadsTo}
+use Rattle.redodb_keeping.specs.Support.Sending.{IsFollowedBy, IsSendCause}
 use Rattle.redodb_conversation.specs.Support.Talking.{HasAnsweredAll, IsTalkCause, IsTalkFault, TalksFrom, nothing}
-use Rattle.redodb_conversation.specs.declared.fault.ServeFault.{ServeFault}
-use Rattle.redodb_conversation.specs.declared.fault.ServeFault.TheVariants.{Memory, Worn, State, Differs, Log, Read, TooLong, Write}
+use Rattle.redodb_keeping.specs.declared.fault.ServeFault.{ServeFault}
+use Rattle.redodb_keeping.specs.declared.fault.ServeFault.TheVariants.{Memory, Worn, State, Differs, Log, Read, TooLong, Write}
 use Rattle.redodb_conversation.specs.declared.opening.Opened.{Opened}
-use Rattle.redodb_conversation.proofs.Led.{steps_are_rounds, steps_lead}
+use Rattle.redodb_keeping.proofs.Led.{steps_are_rounds, steps_lead}
 use Rattle.redodb_conversation.proofs.UnderWay.{log_grown, output_whole}
 
 -- where no operation failed, none was done after one that failed

@@ -6,15 +6,15 @@ use Rattle.redodb_model.specs.Names.{Text}
 use Rattle.redodb_live.specs.Support.LiveState.{LiveState}
 use Rattle.redodb_log.specs.Operations.{Operation}
 use Rattle.redodb_conversation.specs.Logs.{HasNoEnd}
-use Rattle.redodb_conversation.specs.Rounds.{received_in}
+use Rattle.redodb_keeping.specs.Rounds.{received_in}
 use Rattle.redodb_conversation.specs.Support.Moments.{Start, IsBrokenOff}
-use Rattle.redodb_conversation.specs.Support.Places.{TalksAt, as_place, idle_place, known_of}
-use Rattle.redodb_conversation.specs.Support.Steps.{Known}
-use Rattle.redodb_conversation.specs.Support.Sending.{IsSendCause}
+use Rattle.redodb_keeping.specs.Support.Steps.{known_of, Known}
+use Rattle.redodb_conversation.specs.Support.Places.{TalksAt, as_place, idle_place}
+use Rattle.redodb_keeping.specs.Support.Sending.{IsSendCause}
 use Rattle.redodb_conversation.specs.Support.Talking.{HasAnsweredAll, IsTalkCause}
-use Rattle.redodb_conversation.specs.declared.sending.Unsent.{Unsent}
-use Rattle.redodb_conversation.specs.declared.fault.ServeFault.{ServeFault}
-use Rattle.redodb_conversation.specs.declared.fault.ServeFault.TheVariants.{Log, Write}
+use Rattle.redodb_keeping.specs.declared.sending.Unsent.{Unsent}
+use Rattle.redodb_keeping.specs.declared.fault.ServeFault.{ServeFault}
+use Rattle.redodb_keeping.specs.declared.fault.ServeFault.TheVariants.{Log, Write}
 use Rattle.redodb_conversation.proofs.Responding.{place, same_waiting}
 use Rattle.redodb_conversation.proofs.UnderWay.{reads_on, received_more}
 

@@ -3,11 +3,10 @@ use Rattle.std.proofs.Common.{ℕ, [], refl, ap, ◌∙◌, inl, inr, decimal, a
 use Rattle.std.proofs.lemmas.Fmt.{decimal_digit}
 use Rattle.redodb_model.specs.Names.{Text}
 use Rattle.redodb_live.specs.Support.LiveState.{LiveState, IsAsKnown}
-use Rattle.redodb_conversation.specs.Rounds.{Round, fault_text_of}
-use Rattle.redodb_conversation.specs.Support.Places.{known_of}
+use Rattle.redodb_keeping.specs.Rounds.{Round, fault_text_of}
+use Rattle.redodb_keeping.specs.Support.Steps.{known_of, Known, Refusing, IsStep}
 use Rattle.redodb_conversation.specs.Support.Replies.{IsReplied}
-use Rattle.redodb_conversation.specs.Support.Steps.{Known, Refusing, IsStep}
-use Rattle.redodb_conversation.specs.Support.Sending.{IsMemoryFor}
+use Rattle.redodb_keeping.specs.Support.Sending.{IsMemoryFor}
 use Rattle.redodb_conversation.specs.declared.replying.Replied.{Replied}
 use Rattle.redodb_conversation.specs.declared.replying.Replied.TheVariants.{Done, Fault}
 use Rattle.redodb_conversation.proofs.RoundReplied.{done_is_step}

@@ -10,11 +10,11 @@ use Rattle.redodb_model.proofs.OneMore.{left_by-append}
 use Rattle.redodb_history.specs.Histories.{ended}
 use Rattle.redodb_log.specs.Operations.{is_copy, Operation, Held, Append, Sync, Revert, Write, LogFailed, OutputFailed, HasNoFailure, IsPrefix, IsAlways, held_after, written_by}
 use Rattle.redodb_conversation.specs.Logs.{HasNoEnd, logged_of}
-use Rattle.redodb_conversation.specs.Rounds.{Round, lines_in, received_in, output_in}
+use Rattle.redodb_keeping.specs.Rounds.{Round, lines_in, received_in, output_in}
 use Rattle.redodb_conversation.specs.Talks.{AreLines, BeginsBy, IsLogAfter, history_of, output_of, state_after}
 use Rattle.redodb_conversation.specs.Support.Moments.{Start, Moment, Waiting, IsSafe, IsUnderWay, IsBrokenOff, known_first}
-use Rattle.redodb_conversation.specs.Support.Sending.{IsAppendedInPart, IsUnsynced, IsWrittenInPart, IsSentInPart, after_logging, sent_after}
-use Rattle.redodb_conversation.specs.Support.Steps.{Known, IsStep, AreSteps}
+use Rattle.redodb_keeping.specs.Support.Sending.{IsAppendedInPart, IsUnsynced, IsWrittenInPart, IsSentInPart, after_logging, sent_after}
+use Rattle.redodb_keeping.specs.Support.Steps.{Known, IsStep, AreSteps}
 use Rattle.redodb_conversation.specs.Support.Talking.{nothing}
 use Rattle.redodb_conversation.proofs.WholeOperations.{always_whole, is_whole}
 use Rattle.redodb_conversation.proofs.Moments.{begins_after_logging, begins_more, fine_after_logging, lines_more, prefix_self, prefix_of_same, prefix_trans, prefix_of_either, prefix_behind, append_always, write_always, log_more, logged_more, state_more, output_more, always_more, log_failed_safe, output_failed_safe, all_after_logging, kept_after_logging, written_after_logging, always_after_logging}

@@ -1,26 +1,16 @@
 -- Why a conversation ends before its input does, and what was done by then.
-use Rattle.std.specs.Prelude.{◌≡◌, ◌⊎◌, ℕ, Bool, true, false, List, [], ◌∷◌, Option, IsTrue}
+use Rattle.std.specs.Prelude.{◌≡◌, ◌⊎◌, ℕ, true, false, List, [], ◌∷◌, Option, IsTrue}
 use Rattle.std.specs.List.{AllByRecursion}
 use Rattle.redodb_model.specs.Names.{Text}
-use Rattle.redodb_log.specs.Operations.{Operation, Read, Revert, LogFailed, OutputFailed, StopsAtFailure, changes_nothing}
+use Rattle.redodb_log.specs.Operations.{Operation, Read, StopsAtFailure, changes_nothing}
 use Rattle.redodb_log.specs.Logs.{Past, HasPast}
 use Rattle.redodb_log.specs.Restores.{DiffersAt, HasTooMany}
-use Rattle.redodb_conversation.specs.Rounds.{Round}
+use Rattle.redodb_keeping.specs.Rounds.{Round}
+use Rattle.redodb_keeping.specs.Failures.{log_failed, output_failed}
 use Rattle.redodb_conversation.specs.Talks.{Former, HasFound, IsTalk, IsConversation}
 use Rattle.redodb_conversation.specs.declared.keeping.Keeping.{Keeping}
-use Rattle.redodb_conversation.specs.declared.fault.ServeFault.{ServeFault}
-use Rattle.redodb_conversation.specs.declared.fault.ServeFault.TheVariants as faults
-
--- the newest operation is a failure of the log
-abbrev pub log_failed : List Operation → Bool
-log_failed (LogFailed ∷ earlier) = true
-log_failed (Revert ∷ earlier) = true
-log_failed done = false
-
--- the newest operation is a failure of the output
-abbrev pub output_failed : List Operation → Bool
-output_failed (OutputFailed ∷ earlier) = true
-output_failed done = false
+use Rattle.redodb_keeping.specs.declared.fault.ServeFault.{ServeFault}
+use Rattle.redodb_keeping.specs.declared.fault.ServeFault.TheVariants as faults
 
 -- neither the log nor the output was changed
 abbrev pub IsUnchanged : List Operation → Type 0

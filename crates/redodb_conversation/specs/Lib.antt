@@ -1,4 +1,3 @@
-pub mod Rounds
 pub mod Logs
 pub mod Talks
 pub mod Causes

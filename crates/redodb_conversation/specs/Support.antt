@@ -1,7 +1,5 @@
-pub mod Steps
 pub mod Moments
 pub mod KeptLines
-pub mod Sending
 pub mod Requests
 pub mod Replies
 pub mod Places

@@ -1,17 +1,17 @@
 -- What a conversation restores, answers and logs, and what its log and its output hold at each moment.
-use Rattle.std.specs.Prelude.{◌≡◌, ◌⊎◌, ◌↔◌, ℕ, ◌+◌, Bool, false, cond, Contains, List, [], ◌∷◌, ◌++◌, Option, Some, None, IsTrue, map, length, codes, decimal}
+use Rattle.std.specs.Prelude.{◌≡◌, ◌⊎◌, ℕ, ◌+◌, Bool, false, cond, List, [], ◌∷◌, ◌++◌, Option, Some, None, length, codes, decimal}
 use Rattle.std.specs.List.{AllByRecursion}
-use Rattle.std.specs.List.Sorted.{IsStrictlyIncreasing}
 use Rattle.std.specs.Io.KnownBytes.{Consumes}
 use Rattle.redodb_model.specs.Names.{Text, texts}
-use Rattle.redodb_model.specs.State.{State, empty, is_building, target_state}
+use Rattle.redodb_model.specs.State.{State, empty}
 use Rattle.redodb_model.specs.History.{Line, Legal, left_by}
 use Rattle.redodb_history.specs.Histories.{ended}
 use Rattle.redodb_live.specs.Lines.{lines_text_of}
-use Rattle.redodb_log.specs.Logs.{Past, past_lines, head_of, HasPast, IsLogOf, IsPast, IsTornHeader}
+use Rattle.redodb_log.specs.Logs.{Past, past_lines, head_of, HasPast, IsPast}
 use Rattle.redodb_log.specs.Restores.{IsDamagedAfter}
 use Rattle.redodb_log.specs.Operations.{Operation, Read, Cut, Sync, Copy, LogFailed, HasNoFailure, StopsAtFailure, held_after, is_copy, written_by, IsPrefix, IsAlways}
-use Rattle.redodb_conversation.specs.Rounds.{Round, AreEnds, AreRounds, end_word, lines_in, received_in, output_in}
+use Rattle.redodb_keeping.specs.Rounds.{Round, AreRounds, lines_in, received_in, output_in}
+use Rattle.redodb_keeping.specs.Openings.{AreRestored, AreEnded}
 use Rattle.redodb_conversation.specs.Logs.{HasNoEnd, logged_of}
 use Rattle.redodb_conversation.specs.declared.keeping.Keeping.{Keeping}
 
@@ -28,32 +28,6 @@ found_in former = past_lines former.past ++ former.lines
 -- the history before the first line that is read
 abbrev pub history_of : Former → List (Line Text)
 history_of former = found_in former ++ lines_in former.ends
-
--- these are the lines of the log: it is whole but for a last line without LF, or it has not even a header; or it is
--- damaged after them, and may be cut
-abbrev pub AreRestored : Bool → Past → Text → List (Line Text) → Type 0
-AreRestored salvage past bytes lines =
-    ((torn : Text) × IsLogOf past bytes lines torn)
-    ⊎ ((IsTornHeader bytes × (past ≡ None) × (lines ≡ []))
-    ⊎ (IsTrue salvage × IsDamagedAfter past bytes lines))
-
--- no target is locked, and none is building
-abbrev pub HoldsNothing : State Text → Type 0
-HoldsNothing state =
-    (t : Text) → (state.locks.holder t ≡ None)
-    × (is_building (target_state state.records t) ≡ false)
-
--- after this history these sessions, all that held something, ended in the order of their numbers, and nothing is held
--- then
-pub record AreEnded (found : List (Line Text)) (ends : List Round) : Type 0 where
-  pub sessions : List ℕ
-  pub holders : (s : ℕ) → Contains sessions s
-      ↔ ((t : Text) × ((left_by texts empty found).locks.holder t ≡ Some s))
-  pub ascending : IsStrictlyIncreasing sessions
-  pub asked : map (λ round. round.received) ends
-      ≡ map (λ s. decimal (s + 1) ++ codes " " ++ end_word) sessions
-  pub are_ends : AreEnds found ends
-  pub nothing : HoldsNothing (left_by texts empty (found ++ lines_in ends))
 
 -- each was one line: there is no LF in it
 abbrev pub AreLines : List Round → Type 0

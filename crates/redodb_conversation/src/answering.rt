@@ -4,13 +4,12 @@ ghost use Rattle.redodb_history.specs.Histories.{ended};
 ghost use Rattle.redodb_conversation.specs.Logs.{HasNoEnd};
 ghost use Rattle.redodb_conversation.specs.Support.KeptLines.{IsReceivedOf, IsPrefixOf, kept_of};
 ghost use Rattle.redodb_conversation.specs.Support.Places.{GoesOn, GoesOnInLine, BreaksOff, as_place};
-ghost use Rattle.redodb_conversation.specs.Support.Sending.{IsFollowedBy, IsMemoryFor, IsSendCause};
+ghost use Rattle.redodb_keeping.specs.Support.Sending.{IsFollowedBy, IsMemoryFor, IsSendCause};
 
 use crate::asked::asked;
-use crate::fault::{Refusal, ServeFault};
 use crate::replying::reply;
-use crate::sending::{Unsent, send, send_fault};
 use redodb_history::cut_at;
+use redodb_keeping::{Refusal, ServeFault, Unsent, send, send_fault};
 use redodb_live::{Live, Unanswered};
 use redodb_log::Devices;
 use std::alloc::Global;

@@ -1,5 +1,5 @@
 ghost use Rattle.std.specs.Prelude.{MatchOption};
-ghost use Rattle.redodb_conversation.specs.Rounds.{Asks, HasNoSession};
+ghost use Rattle.redodb_keeping.specs.Rounds.{Asks, HasNoSession};
 
 use redodb_history::{cut_at, session_of};
 use redodb_live::MOST_SESSIONS;

@@ -5,8 +5,7 @@ ghost use Rattle.redodb_model.specs.Names.{Text};
 ghost use Rattle.redodb_live.specs.Support.LiveState.{state_in};
 ghost use Rattle.redodb_dump.specs.Dumps.{HasSessions, IsStateOver, dump_of};
 ghost use Rattle.redodb_log.specs.Logs.{dump_header, head_of, AreLogged, IsPast};
-ghost use Rattle.redodb_conversation.specs.Support.Places.{known_of};
-ghost use Rattle.redodb_conversation.specs.Support.Steps.{LeadsTo};
+ghost use Rattle.redodb_keeping.specs.Support.Steps.{known_of, LeadsTo};
 
 use redodb_dump::dump;
 use redodb_live::Live;

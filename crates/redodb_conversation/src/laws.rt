@@ -9,10 +9,10 @@ ghost use Rattle.redodb_history.specs.Histories.{history_text_of};
 ghost use Rattle.redodb_history.specs.HistoryTexts.{IsHistory};
 ghost use Rattle.redodb_live.specs.Lines.{names_after};
 ghost use Rattle.redodb_log.specs.Operations.{Operation, held_after, written_by, IsAlways};
-ghost use Rattle.redodb_conversation.specs.Rounds.{Round, AreRounds, received_in, lines_in};
+ghost use Rattle.redodb_keeping.specs.Rounds.{Round, AreRounds, received_in, lines_in};
 ghost use Rattle.redodb_conversation.specs.Talks.{Former, IsConversation, IsTalk, lines_after};
 ghost use Rattle.redodb_conversation.specs.Support.Laws.{Agree, AreFew, AreLoggedBy, AsksWhy, HasLed, HasSufficed, IsLogUpTo, RestoresFormer, RestoresAnswered, rounds_of};
-ghost use Rattle.redodb_conversation.specs.Support.Steps.{Known, Inquiring};
+ghost use Rattle.redodb_keeping.specs.Support.Steps.{Known, Inquiring};
 ghost use Rattle.redodb_conversation.specs.declared.keeping.Keeping.{Keeping};
 
 /// The lines of a conversation, from the first that its log ever had on, are a history: where they are few enough, so

@@ -5,7 +5,6 @@
 mod answering;
 mod asked;
 mod dumping;
-mod fault;
 mod growth;
 mod keeping;
 mod laws;
@@ -13,11 +12,9 @@ mod midst;
 mod opening;
 mod replying;
 mod request;
-mod sending;
 mod serving;
 mod talking;
 
-pub use fault::ServeFault;
 pub use keeping::{Compacting, Keeping};
 pub use laws::{
     answers_differ, conversation_is_determined, conversation_is_history, log_is_always_one,

@@ -2,11 +2,11 @@
 ghost use Rattle.std.specs.Prelude.{Bool, IfErr, OnOk, OnErr};
 ghost use Rattle.redodb_model.specs.Names.{Text};
 ghost use Rattle.redodb_conversation.specs.Support.Places.{GoesOn, BreaksOff, idle_place};
-ghost use Rattle.redodb_conversation.specs.Support.Sending.{IsFollowedBy, IsSendCause};
+ghost use Rattle.redodb_keeping.specs.Support.Sending.{IsFollowedBy, IsSendCause};
 
 use crate::dumping::dumped;
-use crate::fault::ServeFault;
 use crate::growth::Growth;
+use redodb_keeping::ServeFault;
 use redodb_live::Live;
 use redodb_log::Devices;
 use std::alloc::Global;

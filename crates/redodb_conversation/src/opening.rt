@@ -1,40 +1,21 @@
 //! How a log is opened: its lines are done again, and the sessions that it left end.
 ghost use Rattle.std.specs.Prelude.{◌≡◌, ◌≤◌, Bool, List, [], ◌∷◌, ◌++◌, codes, decimal, length, IfOk, IfErr, OnOk, OnErr};
-ghost use Rattle.redodb_model.specs.History.{Line};
 ghost use Rattle.redodb_model.specs.Names.{Text};
 ghost use Rattle.redodb_history.specs.Histories.{ended};
-ghost use Rattle.redodb_log.specs.Logs.{AreLogged, HasPast, Past};
+ghost use Rattle.redodb_log.specs.Logs.{HasPast, Past};
 ghost use Rattle.redodb_log.specs.Operations.{Read, held_after};
-ghost use Rattle.redodb_conversation.specs.Support.Places.{known_of};
-ghost use Rattle.redodb_conversation.specs.Support.Steps.{LeadsTo};
-ghost use Rattle.redodb_conversation.specs.Support.Opening.{EndsAll, IsKeptFrom, IsOpenCause, IsOpenedFrom, BeginsAt, BeginsInPart, HasGoneOn, HasGoneOnInPart, IsCutInPart, after_cut};
-ghost use Rattle.redodb_conversation.specs.Support.Sending.{IsSendCause};
+ghost use Rattle.redodb_keeping.specs.Support.Opening.{IsOpenCause};
+ghost use Rattle.redodb_keeping.specs.Support.Sending.{IsSendCause};
+ghost use Rattle.redodb_conversation.specs.Support.Opening.{IsOpenedFrom, BeginsAt, BeginsInPart};
 
 use crate::dumping::dumped;
-use crate::fault::ServeFault;
 use crate::growth::Growth;
 use crate::keeping::Keeping;
 use redodb_history::put_number;
+use redodb_keeping::{Kept, Rest, ServeFault, cut_rest, end_all, go_on, restore_or_salvage};
 use redodb_live::Live;
-use redodb_log::{Devices, LOG_HEADER, RestoreFault, Restored, restore};
+use redodb_log::{Devices, LOG_HEADER, Restored};
 use std::alloc::{AllocError, Global};
-
-/// What comes after the lines of a log that are kept.
-#[derive(Clone, Copy, Debug, PartialEq, Eq)]
-pub(crate) enum Rest {
-    Nothing,
-    /// A last line without LF, or a beginning of a header.
-    Torn,
-    /// A line that differs.
-    Damaged,
-}
-
-/// A database in the state after a log's lines, and what is kept of the log.
-#[derive(Drop)]
-struct Kept {
-    restored: Restored,
-    rest: Rest,
-}
 
 /// A database whose log can go on.
 #[derive(Drop)]
@@ -52,47 +33,6 @@ pub(crate) struct Opened {
     pub growth: Growth,
     /// What comes to the output before a line is read.
     pub greeting: Vec<u8>,
-}
-
-/// Does the lines of a log again, or those before the first that differs, if it may be cut.
-fn restore_or_salvage(alloc: Global, salvage: bool, log: &[u8]) -> Result<Kept, ServeFault>
-    ensures kept { IfOk result (λ kept. (past : Past) → HasPast past log.now
-        → IsKeptFrom salvage past log.now kept) }
-    ensures within { IfOk result (λ kept. kept.restored.bytes ≤ length log.now) }
-    ensures cause { IfErr result (IsOpenCause salvage log.now) }
-{
-    match restore(alloc, log) {
-        Ok(restored) => {
-            let rest = if restored.bytes < log.len() {
-                Rest::Torn
-            } else {
-                Rest::Nothing
-            };
-            Ok(Kept { restored, rest })
-        }
-        Err(RestoreFault::Differs { bytes, .. }) if salvage => Ok(Kept {
-            restored: restore(alloc, &log[..bytes])?,
-            rest: Rest::Damaged,
-        }),
-        Err(fault) => Err(ServeFault::from(fault)),
-    }
-}
-
-/// Ends each session that holds something; `logged` gets the lines.
-fn end_all(alloc: Global, live: &mut Live, logged: &mut Vec<u8>) -> Result<(), AllocError>
-    ensures { OnOk result ((before : List (Line Text)) → AreLogged before
-        → LeadsTo before (known_of live.old)
-        → EndsAll before live.new logged.old.items logged.new.items) }
-{
-    let sessions = live.holders(alloc)?;
-    let mut output = Vec::new(alloc);
-    for &session in &sessions {
-        output.clear();
-        if live.end(alloc, session, &mut output, logged).is_err() {
-            return Err(AllocError);
-        }
-    }
-    Ok(())
 }
 
 /// The greeting: which version it is, and how many lines were restored.
@@ -151,44 +91,12 @@ pub(crate) fn open(
     })
 }
 
-/// Cuts off what comes after the lines that are kept. A damaged log is copied first, and synced then: else, if power is
-/// lost, what was cut off could come back behind lines that are appended now.
-fn cut_rest<D: Devices>(opened: &Opened, devices: &mut D) -> Result<(), ServeFault>
-    requires { opened.now.bytes ≤ length (held_after (D.history devices.old)).all }
-    ensures cut { OnOk result (D.history devices.new
-        ≡ after_cut opened.now.rest opened.now.bytes (D.history devices.old)) }
-    ensures part { OnErr result (IsCutInPart opened.now.rest opened.now.bytes
-        (D.history devices.old) (D.history devices.new)) }
-    ensures cause { IfErr result (IsSendCause (D.history devices.new)) }
-{
-    match opened.rest {
-        Rest::Nothing => {}
-        Rest::Torn => devices.cut(opened.bytes)?,
-        Rest::Damaged => {
-            devices.copy()?;
-            devices.cut(opened.bytes)?;
-            devices.tell_cut(opened.lines, opened.bytes);
-            devices.settle()?;
-        }
+/// How far the log has grown, if the dump took its place or if it didn't.
+fn growth_after(opened: &Opened, replaced: bool) -> Growth {
+    match &opened.dump {
+        Some(dump) if replaced => opened.growth.replaced(dump.len()),
+        _ => opened.growth,
     }
-    Ok(())
-}
-
-/// Puts the dump in the place of the log, or appends the ends. Returns how far the log has grown then.
-fn go_on<D: Devices>(opened: &Opened, devices: &mut D) -> Result<Growth, ServeFault>
-    ensures done { OnOk result (HasGoneOn opened.now
-        (D.history devices.old) (D.history devices.new)) }
-    ensures part { OnErr result (HasGoneOnInPart opened.now
-        (D.history devices.old) (D.history devices.new)) }
-    ensures cause { IfErr result (IsSendCause (D.history devices.new)) }
-{
-    if let Some(dump) = &opened.dump {
-        if devices.replace(dump)? {
-            return Ok(opened.growth.replaced(dump.len()));
-        }
-    }
-    devices.append(&opened.logged)?;
-    Ok(opened.growth)
 }
 
 /// Goes on with the log, and greets. Returns how far the log has grown then.
@@ -206,11 +114,11 @@ pub(crate) fn begin<D: Devices>(
         → BeginsInPart sync salvage version bytes opened.now (D.history devices.new)) }
     ensures cause { IfErr result (IsSendCause (D.history devices.new)) }
 {
-    cut_rest(opened, devices)?;
-    let growth = go_on(opened, devices)?;
+    cut_rest(opened.rest, opened.lines, opened.bytes, devices)?;
+    let replaced = go_on(&opened.dump, &opened.logged, devices)?;
     if sync {
         devices.settle()?;
     }
     devices.write(&opened.greeting)?;
-    Ok(growth)
+    Ok(growth_after(opened, replaced))
 }

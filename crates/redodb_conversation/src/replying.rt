@@ -5,14 +5,13 @@ ghost use Rattle.redodb_live.specs.Support.AnswerForms.{AnswersInForm};
 ghost use Rattle.redodb_live.specs.Support.LiveState.{IsAsKnown, state_in};
 ghost use Rattle.redodb_live.specs.Support.AnswerFaults.{IsUnwrittenFor};
 ghost use Rattle.redodb_live.specs.Support.Appended.{AppendsNothing};
-ghost use Rattle.redodb_conversation.specs.Rounds.{Asks, fault_text_of};
-ghost use Rattle.redodb_conversation.specs.Support.Places.{known_of};
+ghost use Rattle.redodb_keeping.specs.Rounds.{Asks, fault_text_of};
+ghost use Rattle.redodb_keeping.specs.Support.Steps.{known_of};
 ghost use Rattle.redodb_conversation.specs.Support.Replies.{AppendsRound, IsInquiryFaultFor, IsPutOffFor, IsUndoneFor};
 
 use crate::asked::asked;
-use crate::fault::Refusal;
 use crate::request::{Request, read_request};
-use crate::sending::fault_line;
+use redodb_keeping::{Refusal, put_fault};
 use redodb_live::{AnswerFault, Live, Unanswered};
 use redodb_text::Inquiry;
 use std::alloc::Global;
@@ -99,12 +98,7 @@ fn refuse_within(fault: Refusal, most: usize, output: &mut Vec<u8>) -> Result<Re
         (IsUnwrittenFor (fault_text_of (decimal fault.number) fault.word.now) most) }
     ensures unwritten { OnErr result (output.new.items ≡ output.old.items) }
 {
-    let line = fault_line(fault);
-    let size = line.len();
-    if size > most {
-        return Err(AnswerFault::TooLong(size));
-    }
-    output.extend_from_slice(&line)?;
+    put_fault(fault, most, output)?;
     Ok(Replied::Fault)
 }
 

@@ -4,11 +4,11 @@ ghost use Rattle.redodb_io.specs.Devices.{known_in};
 ghost use Rattle.redodb_io.specs.Watched.{has_failed};
 ghost use Rattle.redodb_conversation.specs.Causes.{AnsweredAll, IsServeCause};
 
-use crate::fault::ServeFault;
 use crate::keeping::Keeping;
 use crate::opening::{begin, open};
 use crate::talking::{Buffers, talk};
 use redodb_io::Watched;
+use redodb_keeping::ServeFault;
 use redodb_log::Devices;
 use std::alloc::Global;
 use std::io::Read;

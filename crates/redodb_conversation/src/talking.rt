@@ -2,16 +2,15 @@ ghost use Rattle.std.specs.Prelude.{◌≡◌, ◌↔◌, ◌<◌, ◌≤◌, []
 ghost use Rattle.std.specs.Io.KnownBytes.{IsAtEnd};
 ghost use Rattle.redodb_io.specs.Devices.{known_in};
 ghost use Rattle.redodb_io.specs.Watched.{has_failed};
-ghost use Rattle.redodb_conversation.specs.Support.Places.{known_of};
-ghost use Rattle.redodb_conversation.specs.Support.Sending.{IsFollowedBy};
+ghost use Rattle.redodb_keeping.specs.Support.Steps.{known_of};
+ghost use Rattle.redodb_keeping.specs.Support.Sending.{IsFollowedBy};
 ghost use Rattle.redodb_conversation.specs.Support.Talking.{AreEmpty, HasAnsweredAll, IsTalkCause, IsTalkFault, TalksFrom};
 
 use crate::answering::{MOST_KEPT, answer_lines};
-use crate::fault::ServeFault;
 use crate::growth::Growth;
 use crate::midst::compact;
-use crate::sending::Unsent;
 use redodb_io::Watched;
+use redodb_keeping::{ServeFault, Unsent};
 use redodb_live::Live;
 use redodb_log::Devices;
 use std::alloc::{AllocError, Global};

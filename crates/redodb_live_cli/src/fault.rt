@@ -1,6 +1,6 @@
 use redodb_arguments::LiveJob;
-use redodb_conversation::ServeFault;
 use redodb_io::{Watched, write_whole};
+use redodb_keeping::ServeFault;
 use redodb_log::{self as logs, Unread};
 use std::alloc::AllocError;
 use thiserror::Error;

@@ -1,8 +1,9 @@
 //! A conversation over a log and an output in memory.
 ghost use Rattle.std.specs.Prelude.{◌≡◌, []};
 
-use redodb_conversation::{Compacting, Keeping, ServeFault, serve};
+use redodb_conversation::{Compacting, Keeping, serve};
 use redodb_io::Watched;
+use redodb_keeping::ServeFault;
 use redodb_log::{Failing, LogFault, MemoryDevices};
 use std::alloc::Global;
 

@@ -9,8 +9,9 @@ use Rattle.redodb_text.specs.declared.inquiries.Inquiry.TheVariants.{Why}
 use Rattle.redodb_live.specs.Lines.{names_after}
 use Rattle.redodb_log.specs.Logs.{Past, past_lines, IsLogOf}
 use Rattle.redodb_log.specs.Operations.{Operation, Held, IsPrefix, held_after, written_by}
-use Rattle.redodb_conversation.specs.Rounds.{Round, Asks, fault_text_of, lines_in}
-use Rattle.redodb_conversation.specs.Talks.{Former, AreRestored, IsConversation, lines_after, output_of, state_after}
+use Rattle.redodb_keeping.specs.Rounds.{Round, Asks, fault_text_of, lines_in}
+use Rattle.redodb_keeping.specs.Openings.{AreRestored}
+use Rattle.redodb_conversation.specs.Talks.{Former, IsConversation, lines_after, output_of, state_after}
 use Rattle.redodb_conversation.specs.declared.keeping.Keeping.{Keeping}
 
 -- the lines of a log that begins with what is known after the first of these rounds: the history up to there, and those

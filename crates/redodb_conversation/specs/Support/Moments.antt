@@ -8,9 +8,9 @@ use Rattle.redodb_live.specs.Lines.{names_after}
 use Rattle.redodb_log.specs.Logs.{AreLogged}
 use Rattle.redodb_log.specs.Operations.{Operation, HasNoFailure, StopsAtFailure, held_after, written_by, IsAlways}
 use Rattle.redodb_conversation.specs.Logs.{logged_of}
-use Rattle.redodb_conversation.specs.Rounds.{Round, received_in, lines_in, output_in}
+use Rattle.redodb_keeping.specs.Rounds.{Round, received_in, lines_in, output_in}
 use Rattle.redodb_conversation.specs.Talks.{Former, AreLines, BeginsBy, IsBegun, IsLogAfter, IsLoggedFirst, history_of, output_of, state_after}
-use Rattle.redodb_conversation.specs.Support.Steps.{Known, AreSteps, LeadsTo}
+use Rattle.redodb_keeping.specs.Support.Steps.{Known, AreSteps, LeadsTo}
 
 -- how a conversation began: what was asked, what was restored from these bytes, the log before the first answer, how
 -- many calls are counted, and what is left to be read

@@ -1,17 +1,13 @@
 -- How a conversation goes on.
 use Rattle.std.specs.Prelude.{◌≡◌, Bool, List, Option, ◌++◌}
 use Rattle.redodb_model.specs.Names.{Text}
-use Rattle.redodb_live.specs.Support.LiveState.{LiveState, state_in, calls_in}
+use Rattle.redodb_live.specs.Support.LiveState.{LiveState}
 use Rattle.redodb_log.specs.Operations.{Operation}
 use Rattle.redodb_conversation.specs.Support.KeptLines.{IsPrefixOf}
-use Rattle.redodb_conversation.specs.Support.Steps.{Known}
+use Rattle.redodb_keeping.specs.Support.Steps.{Known, known_of}
 use Rattle.redodb_conversation.specs.Support.Moments.{Start, Moment, Waiting, IsUnderWay, IsBrokenOff}
 use Rattle.redodb_conversation.specs.Support.Talking.{nothing}
-use Rattle.redodb_conversation.specs.declared.sending.Unsent.{Unsent}
-
--- what a database knows
-abbrev pub known_of : LiveState → Known
-known_of live = record { names = live.names; state = state_in live; calls = calls_in live }
+use Rattle.redodb_keeping.specs.declared.sending.Unsent.{Unsent}
 
 -- what is known, what was done, and what waits to be sent
 pub record Place : Type 0 where

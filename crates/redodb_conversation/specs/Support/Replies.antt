@@ -10,11 +10,10 @@ use Rattle.redodb_live.specs.declared.fault.AnswerFault.{AnswerFault}
 use Rattle.redodb_live.specs.declared.fault.AnswerFault.TheVariants.{Unanswered, TooLong}
 use Rattle.redodb_conversation.specs.declared.replying.Replied.{Replied}
 use Rattle.redodb_conversation.specs.declared.replying.Replied.TheVariants.{Done, Fault}
-use Rattle.redodb_conversation.specs.Rounds.{Round, Asks, IsFaultWord}
+use Rattle.redodb_keeping.specs.Rounds.{Round, Asks, IsFaultWord}
 use Rattle.redodb_conversation.specs.Logs.{logged_of}
-use Rattle.redodb_conversation.specs.Support.Places.{known_of}
-use Rattle.redodb_conversation.specs.Support.Sending.{refusal_word_of}
-use Rattle.redodb_conversation.specs.Support.Steps.{Known, Answering, Ending, Inquiring, Listing, Refusing, IsStep}
+use Rattle.redodb_keeping.specs.Support.Steps.{known_of, Known, Answering, Ending, Inquiring, Listing, Refusing, IsStep}
+use Rattle.redodb_keeping.specs.Support.Sending.{refusal_word_of}
 
 -- what the round logs is a prefix of its answer
 abbrev pub LogsPrefix : State Text → Round → Type 0

@@ -4,7 +4,7 @@ use Rattle.redodb_model.specs.Names.{Text}
 use Rattle.redodb_text.specs.Inquiries.{inquiry_text_of, inquiry_in, inquiry_fault}
 use Rattle.redodb_text.specs.Questions.{words_of}
 use Rattle.redodb_text.specs.declared.fault.LineFault.{LineFault}
-use Rattle.redodb_conversation.specs.Rounds.{end_word, names_word}
+use Rattle.redodb_keeping.specs.Rounds.{end_word, names_word}
 use Rattle.redodb_conversation.specs.declared.request.Request.{Request}
 use Rattle.redodb_conversation.specs.declared.request.Request.TheVariants as requests
 

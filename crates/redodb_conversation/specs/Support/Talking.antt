@@ -2,13 +2,13 @@
 use Rattle.std.specs.Prelude.{◌≡◌, ◌<◌, ◌≤◌, Bool, List, [], Option, IsTrue, length, vec_capacity, ⊤}
 use Rattle.redodb_model.specs.Names.{Text}
 use Rattle.redodb_log.specs.Operations.{Operation}
-use Rattle.redodb_conversation.specs.Causes.{log_failed, output_failed}
+use Rattle.redodb_keeping.specs.Failures.{log_failed, output_failed}
 use Rattle.redodb_conversation.specs.Logs.{HasNoEnd}
-use Rattle.redodb_conversation.specs.Support.Steps.{Known}
+use Rattle.redodb_keeping.specs.Support.Steps.{Known}
 use Rattle.redodb_conversation.specs.Support.Moments.{Start, Waiting, IsUnderWay, IsBrokenOff}
-use Rattle.redodb_conversation.specs.Support.Sending.{IsSendCause}
-use Rattle.redodb_conversation.specs.declared.fault.ServeFault.{ServeFault}
-use Rattle.redodb_conversation.specs.declared.fault.ServeFault.TheVariants.{Log, Read, TooLong, Write}
+use Rattle.redodb_keeping.specs.Support.Sending.{IsSendCause}
+use Rattle.redodb_keeping.specs.declared.fault.ServeFault.{ServeFault}
+use Rattle.redodb_keeping.specs.declared.fault.ServeFault.TheVariants.{Log, Read, TooLong, Write}
 use Rattle.redodb_conversation.specs.declared.talking.Buffers.{Buffers}
 
 -- a chunk has room, and no prefix is kept

@@ -1,8 +1,8 @@
 use Rattle.std.proofs.Common.{[], ◌++◌, sym, subst, decimal}
 use Rattle.redodb_history.specs.Histories.{ended}
-use Rattle.redodb_conversation.specs.Rounds.{Round, fault_text_of}
+use Rattle.redodb_keeping.specs.Rounds.{Round, fault_text_of}
 use Rattle.redodb_conversation.specs.Support.KeptLines.{IsReceivedOf}
-use Rattle.redodb_conversation.specs.Support.Places.{known_of}
+use Rattle.redodb_keeping.specs.Support.Steps.{known_of}
 use Rattle.redodb_conversation.proofs.Outcomes.{ok_then, err_then}
 use Rattle.redodb_conversation.proofs.Responding.{goes_on_by, same_waiting, fault_goes_on, fault_breaks_off}
 use Rattle.redodb_conversation.proofs.Unanswered.{replied_is_step, refusing_memory}

@@ -1,6 +1,7 @@
 use Rattle.std.proofs.Common.{◌≤◌, [], ◌∷◌, ◌++◌, sym, ap, subst, length, length-append, append-nil, arith}
 use Rattle.redodb_conversation.specs.Support.KeptLines.{IsPrefixOf}
-use Rattle.redodb_conversation.specs.Support.Places.{TalksAt, known_of, as_place}
+use Rattle.redodb_keeping.specs.Support.Steps.{known_of}
+use Rattle.redodb_conversation.specs.Support.Places.{TalksAt, as_place}
 use Rattle.redodb_conversation.proofs.Prefixes.{prefix_more, prefix_of_none, next_line}
 use Rattle.redodb_conversation.proofs.Outcomes.{on_err, ok_by_three, err_then}
 use Rattle.redodb_conversation.proofs.Responding.{sending_goes_on, sending_breaks_off}

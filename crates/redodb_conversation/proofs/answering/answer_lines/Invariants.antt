@@ -2,7 +2,7 @@ use Rattle.std.proofs.Common.{◌≤◌, ◌++◌, length, vec_capacity}
 use Rattle.redodb_model.specs.Names.{Text}
 use Rattle.redodb_conversation.specs.Support.KeptLines.{IsPrefixOf}
 use Rattle.redodb_conversation.specs.Support.Places.{GoesOnInLine, as_place}
-use Rattle.redodb_conversation.specs.Support.Sending.{IsFollowedBy}
+use Rattle.redodb_keeping.specs.Support.Sending.{IsFollowedBy}
 use Rattle.redodb_conversation.proofs.answering.answer_lines.Given as goal
 
 abbrev pub invariant-lines : goal.invariant-lines

@@ -1,4 +1,4 @@
-use Rattle.redodb_conversation.specs.Support.Places.{known_of}
+use Rattle.redodb_keeping.specs.Support.Steps.{known_of}
 use Rattle.redodb_conversation.proofs.Responding.{sending_goes_on, sending_breaks_off}
 use Rattle.redodb_conversation.proofs.Outcomes.{on_err}
 use Rattle.redodb_conversation.proofs.Following.{part_follows, sent_follows}

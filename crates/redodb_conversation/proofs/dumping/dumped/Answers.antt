@@ -1,4 +1,4 @@
-use Rattle.redodb_conversation.proofs.EndedAll.{dump_is}
+use Rattle.redodb_conversation.proofs.DumpedPast.{dump_is}
 use Rattle.redodb_conversation.proofs.dumping.dumped.Goals as goal
 
 pub returns : goal.returns

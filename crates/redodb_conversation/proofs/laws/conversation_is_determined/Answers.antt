@@ -1,6 +1,6 @@
 use Rattle.std.proofs.Common.{◌≡◌, arith, List, [], ◌∷◌, ◌++◌, length, refl, sym, ap, ◌∙◌}
 use Rattle.redodb_conversation.specs.Logs.{logged_of}
-use Rattle.redodb_conversation.specs.Rounds.{lines_in}
+use Rattle.redodb_keeping.specs.Rounds.{lines_in}
 use Rattle.redodb_conversation.specs.Talks.{history_of, output_of, state_after}
 use Rattle.redodb_conversation.proofs.LawfulBytes.{received_once}
 use Rattle.redodb_conversation.proofs.LawfulTurns.{rounds_agree, same_rounds}

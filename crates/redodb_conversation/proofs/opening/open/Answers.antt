@@ -2,7 +2,7 @@ use Rattle.std.proofs.Common.{◌≤◌, ℕ, List, ◌++◌, length, refl, sym,
 use Rattle.std.specs.Prelude.{IfSome}
 use Rattle.redodb_log.specs.Logs.{log_header, past_lines, HasPast}
 use Rattle.std.proofs.lemmas.Result.{err_from_is_err_and}
-use Rattle.redodb_conversation.specs.Support.Opening.{IsKeptFrom}
+use Rattle.redodb_keeping.specs.Support.Opening.{IsKeptFrom}
 use Rattle.redodb_conversation.proofs.OpeningEnds.{IsDumpOf, IsHeaderIfNone, opened_from}
 use Rattle.redodb_conversation.proofs.opening.open.Goals as goal
 use Rattle.redodb_conversation.proofs.opening.open.Goals.{then-bytes-eq0+in_ok-extend_from_slice, else-bytes-eq0, in-Some, in-None}

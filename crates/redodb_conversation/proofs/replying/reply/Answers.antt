@@ -2,7 +2,7 @@ use Rattle.std.proofs.Common.{ℕ, ◌++◌, refl, sym, ap, ◌∙◌, subst, in
 use Rattle.std.proofs.lemmas.Fmt.{decimal_digit}
 use Rattle.redodb_model.specs.Names.{Text}
 use Rattle.redodb_live.specs.Support.LiveState.{calls_in}
-use Rattle.redodb_conversation.specs.Rounds.{IsFaultWord, fault_text_of}
+use Rattle.redodb_keeping.specs.Rounds.{IsFaultWord, fault_text_of}
 use Rattle.redodb_conversation.specs.declared.replying.Replied.TheVariants.{Fault}
 use Rattle.redodb_conversation.proofs.Outcomes.{ok_is_then, if_err_then}
 use Rattle.redodb_conversation.proofs.RoundReplied.{refused_round, refusal_put_off}

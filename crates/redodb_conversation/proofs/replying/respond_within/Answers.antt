@@ -1,5 +1,5 @@
 use Rattle.std.proofs.Common.{refl, subst}
-use Rattle.redodb_conversation.specs.Rounds.{Asks}
+use Rattle.redodb_keeping.specs.Rounds.{Asks}
 use Rattle.redodb_conversation.proofs.Outcomes.{ok_then, if_err_then}
 use Rattle.redodb_conversation.proofs.RoundReplied.{answered_round, ended_round, inquired_round, listed_round, undone_end, undone_names, undone_inquiry, undone_command, undone_fault}
 use Rattle.redodb_conversation.proofs.replying.respond_within.Goals as goal

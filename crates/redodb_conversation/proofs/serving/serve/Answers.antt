@@ -2,9 +2,9 @@ use Rattle.std.proofs.Common.{◌≤◌, List, [], ◌∷◌, length, refl, sym,
 use Rattle.std.proofs.lemmas.Result.{err_from_is_err_and}
 use Rattle.redodb_io.specs.Watched.{inner_of, failures_of}
 use Rattle.redodb_log.specs.Operations.{Operation, Read, held_after}
-use Rattle.redodb_conversation.specs.Support.Places.{known_of}
-use Rattle.redodb_conversation.specs.Support.Sending.{IsSendCause}
-use Rattle.redodb_conversation.specs.declared.fault.ServeFault.TheVariants.{Memory}
+use Rattle.redodb_keeping.specs.Support.Steps.{known_of}
+use Rattle.redodb_keeping.specs.Support.Sending.{IsSendCause}
+use Rattle.redodb_keeping.specs.declared.fault.ServeFault.TheVariants.{Memory}
 use Rattle.redodb_conversation.proofs.Following.{follows_all}
 use Rattle.redodb_conversation.proofs.Outcomes.{ok_then, both_err}
 use Rattle.redodb_conversation.proofs.Served.{answers_all, talk_cause_serves, begin_cause_serves, open_cause_serves, memory_is_no_read, no_read_failed, unchanged_by_read}

@@ -3,7 +3,8 @@ use Rattle.std.specs.Io.KnownBytes.{Consumes}
 use Rattle.std.proofs.lemmas.Grind.{common_steps}
 use Rattle.std.proofs.lemmas.Result.{err_from_is_err_and}
 use Rattle.redodb_io.specs.Watched.{inner_of, failures_of}
-use Rattle.redodb_conversation.specs.Support.Places.{TalksAt, known_of, as_place}
+use Rattle.redodb_keeping.specs.Support.Steps.{known_of}
+use Rattle.redodb_conversation.specs.Support.Places.{TalksAt, as_place}
 use Rattle.redodb_conversation.proofs.Talked.{kept_left, none_waiting, read_more, read_none, answered_all, send_cause_talks, waiting_again}
 use Rattle.redodb_conversation.proofs.Prefixes.{prefix_of_none}
 use Rattle.redodb_conversation.proofs.Responding.{same_waiting}

@@ -2,8 +2,9 @@ use Rattle.std.proofs.Common.{◌≡◌, ◌<◌, ◌≤◌, [], length, vec_cap
 use Rattle.redodb_model.specs.Names.{Text}
 use Rattle.redodb_io.specs.Watched.{inner_of, failures_of}
 use Rattle.redodb_conversation.specs.Support.KeptLines.{IsPrefixOf}
-use Rattle.redodb_conversation.specs.Support.Places.{TalksAt, known_of, as_place}
-use Rattle.redodb_conversation.specs.Support.Sending.{IsFollowedBy}
+use Rattle.redodb_keeping.specs.Support.Steps.{known_of}
+use Rattle.redodb_conversation.specs.Support.Places.{TalksAt, as_place}
+use Rattle.redodb_keeping.specs.Support.Sending.{IsFollowedBy}
 use Rattle.redodb_conversation.specs.Support.Talking.{TalksFrom}
 use Rattle.redodb_conversation.proofs.talking.talk.Given as goal
 

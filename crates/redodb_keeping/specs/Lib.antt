@@ -1,0 +1,4 @@
+pub mod Rounds
+pub mod Openings
+pub mod Failures
+pub mod Support
