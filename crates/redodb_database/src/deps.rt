@@ -1,5 +1,5 @@
 /// On which names a target has rows.
-#[derive(Drop)]
+#[derive(Debug, Drop)]
 pub struct Deps {
     /// The names with a change row, in the order of their numbers.
     pub change: Vec<u32>,

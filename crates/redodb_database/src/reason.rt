@@ -13,7 +13,7 @@ use crate::hints::Hints;
 use redodb_records::{DepRows, News, Records, State};
 
 /// A reason of its own by which a target has to be built again.
-#[derive(Clone, Copy)]
+#[derive(Clone, Copy, Debug)]
 pub enum Reason {
     /// It is being built.
     Building,

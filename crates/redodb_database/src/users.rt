@@ -7,7 +7,7 @@ use redodb_records::Place;
 use std::alloc::{AllocError, Global};
 
 /// The targets that have rows on a name.
-#[derive(Drop)]
+#[derive(Debug, Drop)]
 pub struct Users {
     /// Those with a change row, in the order of their numbers.
     pub change: Vec<u32>,

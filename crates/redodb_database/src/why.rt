@@ -20,7 +20,7 @@ use redodb_records::{DepRows, Records};
 use std::alloc::{AllocError, Global};
 
 /// Why a target is out of date.
-#[derive(Drop)]
+#[derive(Debug, Drop)]
 pub struct Why {
     /// The names after it of a shortest chain of change rows to a target with a reason of its own.
     pub names: Vec<u32>,

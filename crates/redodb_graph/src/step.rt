@@ -1,7 +1,7 @@
 use std::mem::size_of;
 
 /// What an `ifchange` or `ifcreate` lists: the places of its pairs, which a graph has from `from` on.
-#[derive(Clone, Copy)]
+#[derive(Clone, Copy, Debug)]
 pub struct Listed {
     pub from: u32,
     /// How many names there are.
@@ -12,7 +12,7 @@ pub struct Listed {
 
 /// A line of a plan, or a closing `failed`. The first number is its target or name; stamps and digests are numbers of
 /// the graph.
-#[derive(Clone, Copy)]
+#[derive(Clone, Copy, Debug)]
 pub enum Step {
     File(u32, u32),
     Gone(u32),

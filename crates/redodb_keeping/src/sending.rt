@@ -17,7 +17,7 @@ type FaultLine = ArrayVec<u8, 40>;
 const MANY: usize = 65_536;
 
 /// The answers that aren't sent yet, and their log lines.
-#[derive(Drop)]
+#[derive(Debug, Drop)]
 pub struct Unsent {
     pub output: Vec<u8>,
     pub logged: Vec<u8>,

@@ -45,7 +45,7 @@ impl<T: Drop> From<AllocFailed<T>> for NamesFault {
 }
 
 /// Where a name comes after another.
-#[derive(Clone, Copy)]
+#[derive(Clone, Copy, Debug)]
 pub enum Turn {
     /// It is the first of the names that a line lists after its target.
     First,

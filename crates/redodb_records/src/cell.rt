@@ -14,7 +14,7 @@ use std::marker::Model;
 use std::mem::size_of;
 
 /// What is known of one name.
-#[derive(Clone, Copy)]
+#[derive(Clone, Copy, Debug)]
 pub struct Cell {
     // what most marks are of comes first, in one line of the cache
     builds: u32,

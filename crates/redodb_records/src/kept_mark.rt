@@ -9,7 +9,7 @@ use redodb_commands::FileStamp;
 use std::marker::Model;
 
 /// How often a name was built, in four bytes at any address.
-#[derive(Clone, Copy)]
+#[derive(Clone, Copy, Debug)]
 pub struct BuildCount {
     bytes: [u8; 4],
 }
@@ -46,7 +46,7 @@ impl BuildCount {
 }
 
 /// A mark in a slot, without the padding of a `Mark`.
-#[derive(Clone, Copy)]
+#[derive(Clone, Copy, Debug)]
 pub enum KeptMark {
     Digest([u8; 20]),
     Builds(BuildCount),

@@ -7,7 +7,7 @@ use crate::state::State;
 use std::marker::Model;
 
 /// The number of a session, in two bytes at any address.
-#[derive(Clone, Copy)]
+#[derive(Clone, Copy, Debug)]
 pub struct SessionBytes {
     bytes: [u8; 2],
 }
@@ -45,7 +45,7 @@ impl SessionBytes {
 }
 
 /// A state in a cell, without the padding of a `State`.
-#[derive(Clone, Copy)]
+#[derive(Clone, Copy, Debug)]
 pub enum KeptState {
     Idle,
     Building(SessionBytes),

@@ -9,7 +9,7 @@ use crate::records::Records;
 use crate::target::Slot;
 
 /// How a name has changed since a target got a row on it.
-#[derive(Clone, Copy)]
+#[derive(Clone, Copy, Debug)]
 pub enum News {
     /// There is a created row on it, and it has a file now.
     Appeared(u32),

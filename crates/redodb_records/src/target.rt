@@ -16,7 +16,7 @@ use std::marker::Model;
 use std::mem::size_of;
 
 /// Reserved memory for a target's rows on one name, and the rows that are there.
-#[derive(Clone, Copy)]
+#[derive(Clone, Copy, Debug)]
 pub struct Slot {
     name: u32,
     created: bool,
