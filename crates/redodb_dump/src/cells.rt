@@ -4,7 +4,9 @@ ghost use Rattle.std.specs.List.{flat_map};
 ghost use Rattle.redodb_text.specs.Texts.{after_space};
 ghost use Rattle.redodb_dump.specs.Dumps.{build_words, cell_words, is_plain};
 
-use crate::words::{put_count, put_done, put_holder, stage_word};
+use crate::words::put_done;
+use redodb_history::put_count;
+use redodb_live::{put_holder, stage_word};
 use redodb_records::{Cell, State};
 use redodb_text::{put_digest_or_none, put_stamp_or_none, put_word};
 use std::alloc::AllocError;

@@ -11,13 +11,14 @@ ghost use Rattle.redodb_dump.specs.Support.Forms.{HasNameForm, HaveNameForms, Ha
 use crate::cells::put_cell;
 use crate::forms::has_cell_form;
 use crate::rows::put_rows;
-use crate::words::{put_count, put_digest};
+use crate::words::put_digest;
+use redodb_history::put_count;
 use redodb_live::Live;
 use sha1::Sha1;
 use std::alloc::{AllocError, Global};
 
 /// A dump: its first line, and the lines that this one counts.
-#[derive(Debug, Drop)]
+#[derive(Drop)]
 pub struct DumpText {
     pub head: Vec<u8>,
     pub body: Vec<u8>,

@@ -9,9 +9,9 @@ ghost use Rattle.redodb_dump.specs.Support.Forms.{HasRowForms};
 ghost use Rattle.redodb_dump.specs.Support.Slots.{has_rows, slot_words};
 
 use crate::forms::has_change_form;
-use crate::words::{flag_word, put_row};
+use crate::words::put_row;
 use redodb_history::put_number;
-use redodb_live::Live;
+use redodb_live::{Live, flag_word};
 use redodb_records::Slot;
 use redodb_text::put_word;
 use std::alloc::AllocError;

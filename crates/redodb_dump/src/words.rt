@@ -3,50 +3,15 @@ ghost use Rattle.std.specs.Prelude.{◌≡◌, ◌++◌, bytes_eq, decimal, OnOk
 ghost use Rattle.std.specs.Option.{option_eq};
 ghost use Rattle.hex.specs.Hex.{encode_lower};
 ghost use Rattle.redodb_model.specs.State.{mark_in};
-ghost use Rattle.redodb_records.specs.Meaning.{row_mark_of, target_state_of};
+ghost use Rattle.redodb_records.specs.Meaning.{row_mark_of};
 ghost use Rattle.redodb_text.specs.Texts.{after_space};
-ghost use Rattle.redodb_live.specs.Answers.{flag_word, holder_word, stage_word};
 ghost use Rattle.redodb_dump.specs.Dumps.{change_word, created_word, done_word, lettered_word, mark_word};
 
 use redodb_commands::FileStamp;
 use redodb_history::put_number;
-use redodb_records::{Cell, Mark, Slot, State};
+use redodb_records::{Cell, Mark, Slot};
 use redodb_text::put_word;
 use std::alloc::AllocError;
-
-pub(crate) fn stage_word(state: State) -> &'static [u8]
-    ensures { result.now ≡ stage_word (target_state_of state) }
-{
-    match state {
-        State::Idle => b"idle",
-        State::Building(_) => b"building",
-        State::Built => b"built",
-        State::Failed => b"failed",
-    }
-}
-
-pub(crate) fn flag_word(flag: bool) -> &'static [u8]
-    ensures { result.now ≡ flag_word flag }
-{
-    if flag { b"1" } else { b"0" }
-}
-
-pub(crate) fn put_count(out: &mut Vec<u8>, n: usize) -> Result<(), AllocError>
-    ensures { OnOk result (out.new.items ≡ out.old.items ++ after_space (decimal n)) }
-{
-    out.push(b' ')?;
-    put_number(out, n)
-}
-
-/// Writes the number of a session, counted from 1, or `-` for none.
-pub(crate) fn put_holder(out: &mut Vec<u8>, holder: Option<u16>) -> Result<(), AllocError>
-    ensures { OnOk result (out.new.items ≡ out.old.items ++ after_space (holder_word holder)) }
-{
-    match holder {
-        None => put_word(out, b"-"),
-        Some(session) => put_count(out, session as usize + 1),
-    }
-}
 
 /// Writes a stamp with an `s` before it, or `-` for none.
 fn put_lettered(out: &mut Vec<u8>, stamp: Option<FileStamp>) -> Result<(), AllocError>

@@ -16,6 +16,6 @@ pub use laws::{
     one_history,
 };
 pub use logs::{cut_lines, one_cut};
-pub use printed::{put_answer, put_header, put_line, put_number, put_session};
+pub use printed::{put_answer, put_count, put_header, put_line, put_number, put_session};
 pub use read::{read_header, read_line, session_of};
 pub use verdict::Verdict;

@@ -1,6 +1,7 @@
 ghost use Rattle.std.specs.Prelude.{◌≡◌, ◌+◌, ◌++◌, length, codes, decimal, OnOk};
 ghost use Rattle.redodb_model.specs.Renaming.{IsLineBelow};
 ghost use Rattle.redodb_commands.specs.Meaning.{line_of, line_at};
+ghost use Rattle.redodb_text.specs.Texts.{after_space};
 ghost use Rattle.redodb_history.specs.Histories.{ended, header_of, answer_text_of, line_text_of};
 
 use itoa::Buffer;
@@ -14,6 +15,14 @@ pub fn put_number(text: &mut Vec<u8>, n: usize) -> Result<(), AllocError>
     ensures { OnOk result (text.new.items ≡ text.old.items ++ decimal n) }
 {
     text.extend_from_slice(Buffer::new().format(n).as_bytes())
+}
+
+/// Writes a space, and a number in decimal digits.
+pub fn put_count(text: &mut Vec<u8>, n: usize) -> Result<(), AllocError>
+    ensures { OnOk result (text.new.items ≡ text.old.items ++ after_space (decimal n)) }
+{
+    text.push(b' ')?;
+    put_number(text, n)
 }
 
 /// Writes a session's number, with a space after it.

@@ -18,7 +18,7 @@ ghost use Rattle.redodb_live.specs.Support.Asked.{deps_at, users_at, why_at};
 
 use redodb_commands::FileStamp;
 use redodb_database::{Deps, Reason, Users, Why};
-use redodb_history::put_number;
+use redodb_history::put_count;
 use redodb_names::Names;
 use redodb_records::State;
 use redodb_text::{Inquiry, put_names, put_stamp_or_none, put_word};
@@ -101,13 +101,6 @@ pub(crate) fn put_why(
     }
 }
 
-pub(crate) fn put_count(out: &mut Vec<u8>, n: usize) -> Result<(), AllocError>
-    ensures { OnOk result (out.new.items ≡ out.old.items ++ after_space (decimal n)) }
-{
-    out.push(b' ')?;
-    put_number(out, n)
-}
-
 /// Writes how many names there are, and the names.
 fn put_counted(out: &mut Vec<u8>, names: &Names, numbers: &[u32]) -> Result<(), AllocError>
     requires { AllBelow (length names.now) numbers.now }
@@ -118,7 +111,8 @@ fn put_counted(out: &mut Vec<u8>, names: &Names, numbers: &[u32]) -> Result<(), 
     put_names(out, names, numbers)
 }
 
-fn flag_word(flag: bool) -> &'static [u8]
+/// The word that says whether it is so.
+pub fn flag_word(flag: bool) -> &'static [u8]
     ensures { result.now ≡ flag_word flag }
 {
     if flag { b"1" } else { b"0" }
@@ -173,7 +167,8 @@ fn put_stage(out: &mut Vec<u8>, state: State) -> Result<(), AllocError>
     }
 }
 
-fn put_holder(out: &mut Vec<u8>, holder: Option<u16>) -> Result<(), AllocError>
+/// Writes the number of a session, counted from 1, or `-` for none.
+pub fn put_holder(out: &mut Vec<u8>, holder: Option<u16>) -> Result<(), AllocError>
     ensures word { OnOk result (out.new.items
         ≡ out.old.items ++ after_space (holder_word holder)) }
     ensures form { IfSome holder (λ session. session < 65536) }

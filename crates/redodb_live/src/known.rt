@@ -5,12 +5,13 @@ ghost use Rattle.redodb_records.specs.Meaning.{target_state_of};
 ghost use Rattle.redodb_text.specs.Texts.{after_space};
 ghost use Rattle.redodb_live.specs.Answers.{cell_words, stage_word};
 
-use crate::asked::put_count;
+use redodb_history::put_count;
 use redodb_records::{Cell, State};
 use redodb_text::{put_digest_or_none, put_stamp_or_none, put_word};
 use std::alloc::AllocError;
 
-fn stage_word(state: State) -> &'static [u8]
+/// The word of a state, which does not tell the session.
+pub fn stage_word(state: State) -> &'static [u8]
     ensures { result.now ≡ stage_word (target_state_of state) }
 {
     match state {

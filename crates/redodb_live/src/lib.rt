@@ -9,6 +9,8 @@ mod laws;
 mod live;
 mod ordering;
 
+pub use asked::{flag_word, put_holder};
 pub use fault::{AnswerFault, Unanswered};
+pub use known::stage_word;
 pub use laws::{ended_leave_nothing, one_answer_a_line};
 pub use live::{Live, MOST_SESSIONS};

@@ -7,11 +7,10 @@ ghost use Rattle.redodb_live.specs.Answers.{known_words, names_line};
 ghost use Rattle.redodb_live.specs.Support.LiveState.{state_in};
 ghost use Rattle.redodb_live.specs.Support.AnswerFaults.{IsUnwrittenFor};
 
-use crate::asked::put_count;
 use crate::fault::AnswerFault;
 use crate::known::put_cell;
 use crate::live::Live;
-use redodb_history::put_number;
+use redodb_history::{put_count, put_number};
 use redodb_text::put_word;
 use std::alloc::{AllocError, Global};
 
