@@ -12,6 +12,7 @@ use Rattle.redodb_model.specs.Deps as model
 use Rattle.redodb_model.specs.Users.{Users}
 use Rattle.redodb_model.specs.Why as whys
 use Rattle.redodb_model.specs.Why.{Reason, end_of}
+use Rattle.redodb_model.proofs.Members.{all_joined}
 use Rattle.redodb_commands.specs.Stamp.{is_stamp}
 use Rattle.redodb_text.specs.Texts.{spaced, stamp_word}
 use Rattle.redodb_text.specs.Questions.{words_of}
@@ -204,11 +205,6 @@ same_answer name answer other form other_form asked e = absurd (omega (arith, ap
 
 -- their words are visible
 
-joined_visible : (ws vs : List Text) → AllByRecursion IsVisible ws → AllByRecursion IsVisible vs
-    → AllByRecursion IsVisible (ws ++ vs)
-joined_visible [] vs all more = more
-joined_visible (w ∷ ws) vs all more = (all.0, joined_visible ws vs all.1 more)
-
 end_visible : (t : Text) (ns : List Text) → IsVisible t → AllByRecursion IsVisible ns
     → IsVisible (end_of t ns)
 end_visible t [] is all = is
@@ -260,17 +256,19 @@ answer_visible name (Cause (Some why)) is form =
       ),
     )
 answer_visible name (Rows deps) is form =
-    joined_visible (codes "change" ∷ counted deps.change ++ codes "created" ∷ counted deps.created)
+    all_joined IsVisible
+    (codes "change" ∷ counted deps.change ++ codes "created" ∷ counted deps.created)
     (codes "always" ∷ flag_word deps.always ∷ [])
-    (joined_visible (codes "change" ∷ counted deps.change) (codes "created" ∷ counted deps.created)
+    (all_joined IsVisible (codes "change" ∷ counted deps.change)
+    (codes "created" ∷ counted deps.created)
     (refl, counted_visible deps.change form.0) (refl, counted_visible deps.created form.1))
     (refl, (flag_visible deps.always, tt))
 answer_visible name (Uses users) is form =
-    joined_visible (codes "change" ∷ counted users.change)
+    all_joined IsVisible (codes "change" ∷ counted users.change)
     (codes "created" ∷ counted users.created)
     (refl, counted_visible users.change form.0) (refl, counted_visible users.created form.1)
 answer_visible name (Standing state holder file) is form =
-    joined_visible (stage_words state)
+    all_joined IsVisible (stage_words state)
     (codes "lock" ∷ holder_word holder ∷ codes "file" ∷ stamp_word file ∷ [])
     (stage_visible state form.0)
     (refl, (holder_visible holder form.1, (refl, (file_visible file form.2, tt))))

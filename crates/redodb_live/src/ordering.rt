@@ -32,31 +32,6 @@ pub(crate) fn sort(names: &Names, numbers: &mut Vec<u32>)
     numbers.sort_unstable_by(|a, b| order_of(names, *a, *b));
 }
 
-/// The reply with its list of names, if it has one, in the order of their texts.
-pub(crate) fn ordered(names: &Names, reply: Reply) -> Reply
-    ensures { IsSortedReply (by_text names.now).order (reply_of reply) (reply_of result) }
-{
-    match reply {
-        Reply::Stale(mut list) => {
-            sort(names, &mut list);
-            Reply::Stale(list)
-        }
-        Reply::Ood(mut list) => {
-            sort(names, &mut list);
-            Reply::Ood(list)
-        }
-        Reply::Targets(mut list) => {
-            sort(names, &mut list);
-            Reply::Targets(list)
-        }
-        Reply::Sources(mut list) => {
-            sort(names, &mut list);
-            Reply::Sources(list)
-        }
-        other => other,
-    }
-}
-
 /// The reply's list of names; empty if it has none.
 pub(crate) fn list_of(reply: &Reply) -> &[u32] {
     match reply {
@@ -129,4 +104,11 @@ pub(crate) fn ordered_guessed(
         }
         other => other,
     }
+}
+
+/// The same without a guess.
+pub(crate) fn ordered(names: &Names, reply: Reply) -> Reply
+    ensures { IsSortedReply (by_text names.now).order (reply_of reply) (reply_of result) }
+{
+    ordered_guessed(names, reply, &[], &[])
 }
