@@ -52,6 +52,20 @@ class Copies:
         self.checks.check(name, got, fault(f"{self.copy}: is there already"))
         self.checks.check(f"{name}: log", self.log.read_text() == TEXT, True)
 
+    def of_a_private_log(self) -> None:
+        """Who may not read the log may not read its copy, be it new or one that was begun."""
+        for mode in 0o600, 0o640, 0o644:
+            for begun in None, "", TEXT[:PIECE]:
+                self.log.write_text(TEXT)
+                self.log.chmod(mode)
+                if begun is not None:
+                    self.copy.write_text(begun)
+                ended(self.program, "", "--log", str(self.log), "--salvage")
+                name = f"mode {mode:o}, {'no copy' if begun is None else len(begun)}"
+                self.checks.check(name, self.copy.stat().st_mode & 0o777, mode)
+                self.copy.unlink()
+        self.log.unlink()
+
     def others(self) -> None:
         """A file that is no beginning of the log stays as it is."""
         texts = {"longer than the log": f"{TEXT}1", "longer by a zero": f"{TEXT}\0"}
@@ -160,6 +174,7 @@ class Copies:
 
     def all(self) -> None:
         self.begun()
+        self.of_a_private_log()
         self.others()
         self.links()
         self.other_kinds()

@@ -81,12 +81,14 @@ fn open_copy(rt: &HostRuntime, name: &str, file: &File) -> Result<(File, u64), L
     }
 }
 
+/// Copies what a copy lacks to it, which may be read by whom the file may be read, and syncs it and its folder.
 fn copy_synced(
     rt: &HostRuntime,
     name: &str,
     file: &File,
     (mut copy, start): (File, u64),
 ) -> io::Result<()> {
+    copy.set_permissions(file.metadata()?.permissions())?;
     copy_from(start, file, &mut copy)?;
     copy.sync_data()?;
     sync_folder(rt, name)

@@ -26,7 +26,7 @@ pub enum KeepCause {
 }
 
 /// Why a log was not replaced.
-#[derive(Clone, Copy, Debug)]
+#[derive(Clone, Copy)]
 pub enum ReplaceFault {
     /// It has the bytes that it had.
     Kept(KeepCause),
