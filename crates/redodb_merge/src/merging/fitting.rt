@@ -1,7 +1,6 @@
 //! Whether each entry has a place that fits it.
 
 ghost use Rattle.std.specs.Prelude.{◌≡◌, ◌↔◌, ℕ, IsTrue, MatchBool, length, map};
-ghost use Rattle.redodb_model.specs.Command as commands;
 ghost use Rattle.redodb_model.specs.Placed as placed;
 ghost use Rattle.redodb_model.specs.Placed.{Fits};
 ghost use Rattle.redodb_commands.specs.Meaning.{command_of, reply_of};
@@ -24,34 +23,17 @@ fn is_claim(command: &Command, reply: &Reply) -> bool
     }
 }
 
-fn is_lock(command: &Command, target: u32) -> bool
-    ensures { IsTrue result ↔ (command_of command.now ≡ commands.Lock target) }
-{
-    match command {
-        Command::Lock(t) => *t == target,
-        _ => false,
-    }
-}
-
-fn is_unlock(command: &Command, target: u32) -> bool
-    ensures { IsTrue result ↔ (command_of command.now ≡ commands.Unlock target) }
-{
-    match command {
-        Command::Unlock(t) => *t == target,
-        _ => false,
-    }
-}
-
 /// Whether the place fits the command and its reply.
 fn fits(command: &Command, reply: &Reply, place: Place) -> bool
     ensures { IsTrue result
         ↔ Fits (place_of place) (command_of command.now) (reply_of reply.now) }
 {
-    match place {
-        Place::Row(_) => !is_claim(command, reply),
-        Place::Granted(t, g) => is_lock(command, t) && reply.is_same(&Reply::Granted(g)),
-        Place::Busy(t, g) => is_lock(command, t) && reply.is_same(&Reply::Busy(g)),
-        Place::Released(t, _) => is_unlock(command, t) && reply.is_same(&Reply::Okay),
+    match (place, command, reply) {
+        (Place::Row(_), _, _) => !is_claim(command, reply),
+        (Place::Granted(t, g), Command::Lock(u), Reply::Granted(h)) => t == *u && g == *h,
+        (Place::Busy(t, g), Command::Lock(u), Reply::Busy(h)) => t == *u && g == *h,
+        (Place::Released(t, _), Command::Unlock(u), Reply::Okay) => t == *u,
+        _ => false,
     }
 }
 
