@@ -73,16 +73,6 @@ impl Board {
             ≡ rows_of (plan_of self) + 1 + length (plan_of self).names }
         ensures slots { slots_len result.slots ≡ 0 }
     {
-        let Board {
-            table,
-            rows: _,
-            graph: _,
-        } = self;
-        let Seat {
-            seat,
-            first: _,
-            end: _,
-        } = seat;
-        table.close_with(seat)
+        self.table.close_with(seat.seat)
     }
 }

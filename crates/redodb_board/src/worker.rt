@@ -65,13 +65,8 @@ impl<'a> Worker<'a> {
         let Ok(replica) = Replica::new(alloc, &board.graph, plan.names().len()) else {
             return Err(seat);
         };
-        let Seat {
-            seat,
-            first: _,
-            end: _,
-        } = seat;
         Ok(Worker {
-            seat,
+            seat: seat.seat,
             session,
             entries,
             own,
@@ -182,25 +177,16 @@ impl<'a> Worker<'a> {
         ensures leaves { (plan : PlanOf) (board : BoardOf) → WorksAt plan board self.entry
             → Leaves plan board self.entry result.0 result.1 }
     {
-        let Worker {
-            seat,
-            session,
-            entries,
-            own: _,
-            replica: _,
-            pending: _,
-            tries,
-        } = self;
-        let session_at = session as usize;
+        let session_at = self.session as usize;
         let left = Seat {
-            seat,
+            seat: self.seat,
             first: session_at,
             end: session_at,
         };
         let journal = Journal {
-            session,
-            entries,
-            tries,
+            session: self.session,
+            entries: self.entries,
+            tries: self.tries,
         };
         (left, journal)
     }
