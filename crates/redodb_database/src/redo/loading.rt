@@ -1,9 +1,10 @@
 //! A database that is made from its parts.
-ghost use Rattle.std.specs.Prelude.{◌≡◌, ℕ, ◌<◌, ◌↔◌, Some, max, length, slice_set, Contains, IfOk, OnOk, OnErr};
+ghost use Rattle.std.specs.Prelude.{◌≡◌, ℕ, ◌<◌, ◌^◌, ◌↔◌, Some, max, length, slice_set, Contains, IfOk, OnOk, OnErr};
 ghost use Rattle.redodb_model.specs.State.{Building, empty, mark_in, target_state};
 ghost use Rattle.redodb_records.specs.Cells.{cell_at, with_cell_at};
 ghost use Rattle.redodb_records.specs.Meaning.{row_mark_of};
-ghost use Rattle.redodb_records.specs.Rows.{rows_of, with_always, with_change, with_created};
+ghost use Rattle.redodb_memo.specs.Memo.{IsRight, memo_count};
+ghost use Rattle.redodb_records.specs.Rows.{rows_count, rows_of, with_always, with_change, with_created, with_rows};
 ghost use Rattle.redodb_database.specs.Tables.{state_of, tables_records, locks_of, tables_count, calls_of};
 
 use crate::database::correct;
@@ -58,6 +59,21 @@ fn all_numbers(alloc: Global, count: u32) -> Result<Vec<u32>, AllocError>
     (0..count).collect(alloc)
 }
 
+/// What is out of date by these records and rows, derived from nothing, and hints for it.
+fn derived(alloc: Global, records: &Records, rows: &DepRows) -> Result<(Memo, Hints), AllocError>
+    requires rows { rows_count rows.now ≡ length records.now }
+    requires few { length records.now < 2 ^ 32 }
+    ensures right { IfOk result (λ made. IsRight made.0 (with_rows records.now rows.now)) }
+    ensures count { IfOk result (λ made. memo_count made.0 ≡ length records.now) }
+{
+    let count = records.count() as u32;
+    let all = all_numbers(alloc, count)?;
+    let mut hints = Hints::new(alloc, count)?;
+    let mut memo = Memo::new(alloc, count)?;
+    correct(&mut memo, &mut hints, records, rows, &all);
+    Ok((memo, hints))
+}
+
 impl Loading {
     ghost use Rattle.redodb_database.specs.Support.Parts.{state_made, parts_count, AreSameButRows};
 
@@ -67,11 +83,11 @@ impl Loading {
         ensures count { IfOk result (λ loading. parts_count loading ≡ count) }
         ensures most { IfOk result (λ loading. loading.most ≡ 0) }
     {
+        let holders = vec![in alloc; None; count as usize]?;
+        let grants = vec![in alloc; 0; count as usize]?;
+        let held = Bits::new(alloc, count)?;
         let records = Records::new(alloc, count)?;
         let rows = DepRows::new(alloc, count)?;
-        let holders = vec![in alloc; None; count as usize]?;
-        let held = Bits::new(alloc, count)?;
-        let grants = vec![in alloc; 0; count as usize]?;
         Ok(Loading {
             records,
             rows,
@@ -179,11 +195,7 @@ impl Loading {
             → target_state (tables_records redo) t ≡ Building s
             → (locks_of redo).holder t ≡ Some s) }
     {
-        let count = self.records.count() as u32;
-        let all = all_numbers(alloc, count)?;
-        let mut memo = Memo::new(alloc, count)?;
-        let mut hints = Hints::new(alloc, count)?;
-        correct(&mut memo, &mut hints, &self.records, &self.rows, &all);
+        let (memo, hints) = derived(alloc, &self.records, &self.rows)?;
         Ok(Redo {
             records: self.records,
             rows: self.rows,

@@ -53,11 +53,11 @@ impl Redo {
     {
         let alloc = *self.holders.allocator();
         let count = numbers as usize;
-        let memo = self.memo.grown(alloc, numbers)?;
-        let hints = Hints::new(alloc, numbers)?;
         let holders = extended(alloc, &self.holders, count, None)?;
-        let held = self.held.grown(alloc, numbers)?;
         let grants = extended(alloc, &self.grants, count, 0)?;
+        let held = self.held.grown(alloc, numbers)?;
+        let hints = Hints::new(alloc, numbers)?;
+        let memo = self.memo.grown(alloc, numbers)?;
         grow_both(&mut self.records, &mut self.rows, numbers)?;
         self.memo = memo;
         self.hints = hints;
