@@ -125,9 +125,8 @@ fn run_in<'s, E, G: Gate + Sync, R: Threads + Sync>(
     let (Ok((seat, journal)), Ok((other, mut later))) = (thread.join(rt), rest) else {
         return Err(AllocError);
     };
-    let mut journals = vec![in alloc; journal]?;
-    journals.append(&mut later)?;
-    Ok((seat.meet(other, board), journals))
+    later.insert(0, journal)?;
+    Ok((seat.meet(other, board), later))
 }
 
 /// Does all that the sessions do, each on a thread of its own, one of them the caller's. It joins
