@@ -10,7 +10,6 @@ ghost use Rattle.redodb_board.specs.Rows.{command, rows_for, rows_in, rows_of};
 use redodb_commands::{Command, Item, Script};
 use redodb_journal::{Next, Plan};
 
-/// The script of a session.
 pub(crate) fn script(plan: &Plan, session: u8) -> &Script
     requires { session < length plan.now.scripts }
     ensures script { map item_of result.now ≡ script_of plan.now session }
@@ -63,7 +62,6 @@ pub(crate) fn session_number(plan: &Plan, session: usize) -> u8
     session as u8
 }
 
-/// How many sessions there are.
 pub(crate) fn sessions(plan: &Plan) -> usize
     ensures count { result ≡ length plan.now.scripts }
     ensures plan { IsPlan plan.now }

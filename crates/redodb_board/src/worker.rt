@@ -154,7 +154,6 @@ impl<'a> Worker<'a> {
         self.entries.push_reserved(entry);
     }
 
-    /// The last entry, if there is one.
     fn last(&self) -> Option<&Entry>
         ensures { IsLast (entries_of self.now) result }
     {

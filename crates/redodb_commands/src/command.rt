@@ -80,7 +80,6 @@ impl Command {
     ghost use Rattle.redodb_commands.specs.Meaning.{command_of};
     ghost use Rattle.redodb_commands.specs.Support.Meaning.{kind_of};
 
-    /// Its case.
     pub fn kind(&self) -> Kind
         ensures { result ≡ kind_of self.now }
     {
@@ -115,7 +114,6 @@ impl Command {
         }
     }
 
-    /// Whether the other is equal.
     pub fn is_same(&self, other: &Command) -> bool
         ensures { IsTrue result ↔ (command_of self.now ≡ command_of other.now) }
     {
@@ -138,7 +136,6 @@ impl Command {
         }
     }
 
-    /// An equal command.
     pub fn copy(&self, alloc: Global) -> Result<Command, AllocError>
         ensures { IfOk result (λ copy. command_of copy ≡ command_of self.now) }
     {

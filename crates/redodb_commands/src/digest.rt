@@ -9,7 +9,6 @@ pub struct Digest {
 }
 
 impl Digest {
-    /// The digest with these bytes.
     pub fn new(bytes: [u8; 20]) -> Digest
         ensures { result.bytes ≡ bytes }
     {

@@ -50,7 +50,6 @@ impl Reply {
         !matches!(self, Reply::Busy(_) | Reply::Refused(_))
     }
 
-    /// Whether the other is equal.
     pub fn is_same(&self, other: &Reply) -> bool
         ensures { IsTrue result ↔ (reply_of self.now ≡ reply_of other.now) }
     {
@@ -68,7 +67,6 @@ impl Reply {
         }
     }
 
-    /// An equal reply.
     pub fn copy(&self, alloc: Global) -> Result<Reply, AllocError>
         ensures { IfOk result (λ copy. reply_of copy ≡ reply_of self.now) }
     {

@@ -31,7 +31,6 @@ impl Model for Script {
 }
 
 impl Script {
-    /// The script of these lines.
     pub fn new(items: Vec<Item>) -> Script
         requires { length items.items ≤ 4096 }
         ensures items { result ≡ items.items }

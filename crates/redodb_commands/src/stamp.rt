@@ -83,7 +83,6 @@ impl FileStamp {
         })
     }
 
-    /// Its bytes.
     pub fn bytes(&self) -> &[u8]
         ensures bytes { result.now ≡ self.now }
         ensures stamp { stamp_test self.now ≡ true }

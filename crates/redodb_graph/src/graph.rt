@@ -57,7 +57,6 @@ impl Graph {
         })
     }
 
-    /// The step of a line of a session.
     pub fn step(&self, session: usize, line: usize) -> Step
         requires { line < length (slice_index_or self.now.steps session []) }
         ensures { slice_get (slice_index_or self.now.steps session []) line ≡ Some result }

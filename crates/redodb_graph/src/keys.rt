@@ -22,7 +22,6 @@ pub(crate) fn push_names(
     Ok(())
 }
 
-/// Appends the pairs that a command lists.
 fn push_command(keys: &mut Vec<(u32, u32)>, command: &Command) -> Result<(), AllocError>
     ensures { OnOk result
         (keys.new.items ≡ keys.old.items ++ listed_in (command_of command.now)) }
@@ -34,7 +33,6 @@ fn push_command(keys: &mut Vec<(u32, u32)>, command: &Command) -> Result<(), All
     }
 }
 
-/// Appends the pairs that the lines of a script list.
 fn push_script(keys: &mut Vec<(u32, u32)>, script: &Script) -> Result<(), AllocError>
     ensures { OnOk result (keys.new.items ≡ keys.old.items
         ++ flat_map (λ item. listed_in item.command) (map item_of script.now)) }

@@ -92,7 +92,6 @@ impl Numbering {
         })
     }
 
-    /// Whether the stamp has this number.
     fn has_number(&self, stamp: &FileStamp, number: u32) -> bool
         ensures { IsTrue result → slice_get self.now.stamps number ≡ Some stamp.now }
     {
@@ -115,7 +114,6 @@ impl Numbering {
         small(number)
     }
 
-    /// The number of a stamp.
     fn stamp(&mut self, stamp: &FileStamp) -> Result<u32, AllocError>
         ensures number { IfOk result
             (λ number. slice_get self.new.stamps number ≡ Some stamp.now) }
@@ -126,7 +124,6 @@ impl Numbering {
         Ok(number)
     }
 
-    /// The number of the content's digest.
     fn digest(&mut self, content: &[u8]) -> Result<u32, AllocError>
         ensures number { IfOk result
             (λ number. slice_get self.new.digests number ≡ Some (sha1 content.now)) }
@@ -136,7 +133,6 @@ impl Numbering {
         small(number)
     }
 
-    /// Lists the pairs of the target on the names.
     fn list(&mut self, target: u32, names: &[u32]) -> Result<Listed, AllocError>
         requires { Covers self.old.pairs.items (map (λ n. (target, n)) names.now) }
         ensures listed { IfOk result (λ list. AreListed self.new target names.now list) }
@@ -149,7 +145,6 @@ impl Numbering {
         Ok(Listed { from, len, itself })
     }
 
-    /// The step of a command.
     fn step(&mut self, command: &Command) -> Result<Step, AllocError>
         requires { Covers self.old.pairs.items (listed_in (command_of command.now)) }
         ensures step { IfOk result (λ step. Means self.new step (command_of command.now)) }
@@ -180,7 +175,6 @@ impl Numbering {
         }
     }
 
-    /// The steps of a script.
     fn script(&mut self, alloc: Global, script: &Script) -> Result<Vec<Step>, AllocError>
         requires { Covers self.old.pairs.items
             (flat_map (λ item. listed_in item.command) (map item_of script.now)) }
@@ -196,7 +190,6 @@ impl Numbering {
         Ok(steps)
     }
 
-    /// The steps of each script.
     pub(crate) fn scripts(
         &mut self,
         alloc: Global,

@@ -7,7 +7,6 @@ use redodb_names::in_order;
 use std::alloc::{AllocError, Global};
 use std::mem;
 
-/// That many blocks without a number.
 fn bare_blocks(alloc: Global, count: u32) -> Result<Vec<Vec<u32>>, AllocError>
     ensures count { IfOk result (λ blocks. length blocks.items ≡ count) }
     ensures bare { IfOk result

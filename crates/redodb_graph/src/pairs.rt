@@ -39,7 +39,6 @@ impl Pairs {
         Ok(Pairs { pairs, starts })
     }
 
-    /// The pairs.
     pub fn as_slice(&self) -> &[(u32, u32)]
         ensures pairs { result.now ≡ self.now.items }
         ensures ascending { AreAscending self.now.items }

@@ -31,7 +31,6 @@ impl Model for Tables {
 }
 
 impl Tables {
-    /// The stamps by their numbers, each once.
     pub(crate) fn stamps(&self) -> &[FileStamp]
         ensures stamps { result.now ≡ self.now.stamps }
         ensures once { IsOnce self.now.stamps }
@@ -39,7 +38,6 @@ impl Tables {
         &self.stamps
     }
 
-    /// The digests by their numbers, each once.
     pub(crate) fn digests(&self) -> &[[u8; 20]]
         ensures digests { result.now ≡ self.now.digests }
         ensures once { IsOnce self.now.digests }

@@ -62,7 +62,6 @@ impl Plan {
         Ok(Plan { scripts, names })
     }
 
-    /// The scripts: one for each session.
     pub fn scripts(&self) -> &[Script]
         ensures scripts { scripts_of result.now ≡ self.now.scripts }
         ensures plan { IsPlan self.now }
@@ -70,7 +69,6 @@ impl Plan {
         &self.scripts
     }
 
-    /// The names.
     pub fn names(&self) -> &Names
         ensures { result.now ≡ self.now.names }
     {

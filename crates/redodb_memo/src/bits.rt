@@ -49,7 +49,6 @@ impl Bits {
         Ok(Bits { words, count })
     }
 
-    /// Whether the number is in the set.
     pub fn contains(&self, t: u32) -> bool
         requires { t < length self.now }
         ensures { result ≡ slice_index_or self.now t false }
@@ -57,7 +56,6 @@ impl Bits {
         self.words[t as usize / 64] >> (t % 64) & 1 == 1
     }
 
-    /// Adds the number to the set.
     pub fn insert(&mut self, t: u32)
         requires { t < length self.old }
         ensures { self.new ≡ slice_set self.old t true }
@@ -65,7 +63,6 @@ impl Bits {
         self.words[t as usize / 64] |= 1 << (t % 64);
     }
 
-    /// Removes the number from the set.
     pub fn remove(&mut self, t: u32)
         requires { t < length self.old }
         ensures { self.new ≡ slice_set self.old t false }

@@ -31,7 +31,6 @@ impl Model for NameSet {
     ghost invariant = { KeepsMarked };
 }
 
-/// Removes the marks of these names.
 fn unmark_each(marks: &mut Bits, names: &[u32])
     requires { AllBelow (length marks.old) names.now }
     ensures sized { length marks.new ≡ length marks.old }
@@ -66,7 +65,6 @@ impl NameSet {
         Ok(NameSet { marks, queue })
     }
 
-    /// Whether the name is marked.
     pub fn contains(&self, t: u32) -> bool
         requires { t < size_of self.now }
         ensures { result ≡ slice_index_or self.now.marks t false }

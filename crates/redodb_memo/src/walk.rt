@@ -43,7 +43,6 @@ pub trait Dependencies {
         ensures { IsTrue result ↔ IsDue (records self.now) marks.now t };
 }
 
-/// Marks the names.
 fn enter_each(names: &[u32], marks: &mut NameSet)
     requires { AllBelow (size_of marks.old) names.now }
     ensures { Enters (Contains names.now) marks.old marks.new }

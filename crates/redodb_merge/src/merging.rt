@@ -62,7 +62,6 @@ fn least(
     None
 }
 
-/// Whether nothing is left.
 fn is_done(journals: &[Journal], next: &[usize]) -> bool
     requires { length next.now ≡ length journals.now }
     ensures { MatchBool result

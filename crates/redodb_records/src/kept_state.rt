@@ -77,7 +77,6 @@ impl KeptState {
         }
     }
 
-    /// This session is building it.
     pub fn building(session: u16) -> KeptState
         ensures { kept_state_of result ≡ states.Building session }
     {

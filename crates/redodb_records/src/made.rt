@@ -46,7 +46,6 @@ pub(crate) fn more_names(
     })
 }
 
-/// That many targets without rows and slots.
 fn bare_targets(alloc: Global, count: usize) -> Result<Vec<Target>, AllocError>
     ensures { IfOk result (λ targets. targets.items ≡ replicate count bare) }
 {
@@ -57,7 +56,6 @@ fn bare_targets(alloc: Global, count: usize) -> Result<Vec<Target>, AllocError>
     Ok(targets)
 }
 
-/// That many lists without numbers.
 fn empty_lists(alloc: Global, count: usize) -> Result<Vec<Numbers>, AllocError>
     ensures count { IfOk result (λ lists. length lists.items ≡ count) }
     ensures empty { IfOk result (λ lists. AreEmpty lists.items) }

@@ -71,7 +71,6 @@ fn search(places: &[Place], x: u32) -> Result<usize, usize>
     places.binary_search_by_key(&x, |place| place.number)
 }
 
-/// Whether this place is that of the number.
 fn is_place_of(places: &[Place], x: u32, at: usize) -> bool
     ensures { IsTrue result ↔ IsPlaceOf places.now x at }
 {
@@ -153,7 +152,6 @@ fn put_new(places: &mut Vec<Place>, gap: usize, x: u32)
 }
 
 impl Numbers {
-    /// No numbers.
     pub fn new(alloc: Global) -> Numbers
         ensures { result.items ≡ [] }
     {
@@ -171,7 +169,6 @@ impl Numbers {
         self.places.as_slice()
     }
 
-    /// Whether there is any number.
     pub fn has_any(&self) -> bool
         ensures { IsTrue result ↔ ((u : ℕ) × Contains self.now.items u) }
     {

@@ -71,7 +71,6 @@ impl Records {
         self.cells[n as usize].file()
     }
 
-    /// Its state.
     pub fn state(&self, n: u32) -> State
         requires { n < length self.now }
         ensures { target_state_of result ≡ (cell_at self.now n).state }
@@ -113,7 +112,6 @@ impl Records {
         self.cells[t as usize].refusal(s, kind, holds)
     }
 
-    /// This is known of it.
     pub fn set_cell(&mut self, n: u32, cell: Cell)
         requires { n < length self.old }
         ensures { self.new ≡ with_cell_at self.old n cell }
@@ -121,7 +119,6 @@ impl Records {
         self.cells[n as usize] = cell;
     }
 
-    /// Its file has this stamp, or there is none.
     pub fn set_file(&mut self, n: u32, file: Option<FileStamp>)
         requires { n < length self.old }
         ensures { self.new ≡ with_cell_at self.old n (record (cell_at self.old n) { file = file }) }
@@ -129,7 +126,6 @@ impl Records {
         self.cells[n as usize].set_file(file);
     }
 
-    /// The session builds it from now on.
     pub fn start(&mut self, s: u16, t: u32)
         requires number { t < length self.old }
         requires free { IsFalse (is_building (cell_at self.old t).state) }
@@ -164,7 +160,6 @@ impl Records {
         self.cells[t as usize].done(stamp);
     }
 
-    /// Its build failed.
     pub fn failed(&mut self, t: u32)
         requires number { t < length self.old }
         requires building { IsTrue (is_building (cell_at self.old t).state) }

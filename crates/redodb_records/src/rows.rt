@@ -44,7 +44,6 @@ impl Model for DepRows {
 }
 
 impl DepRows {
-    /// No rows and no slots.
     pub fn new(alloc: Global, names: u32) -> Result<DepRows, AllocError>
         ensures count { IfOk result (λ rows. rows_count rows ≡ names) }
         ensures rows { IfOk result (λ rows. rows_of rows ≡ no_rows) }
@@ -161,7 +160,6 @@ impl DepRows {
         inverse::put_in(&mut self.needed, n, t, was);
     }
 
-    /// A created row of `t` on `n`.
     pub fn put_created(&mut self, t: u32, n: u32)
         requires target { t < rows_count self.old }
         requires name { n < rows_count self.old }
@@ -174,7 +172,6 @@ impl DepRows {
         inverse::put_in(&mut self.awaited, n, t, was);
     }
 
-    /// An always row of `t`.
     pub fn put_always(&mut self, t: u32)
         requires { t < rows_count self.old }
         ensures rows { rows_of self.new ≡ with_always (rows_of self.old) t }
@@ -195,7 +192,6 @@ impl DepRows {
         self.targets[t as usize].clear();
     }
 
-    /// Whether `t` has an always row.
     pub fn always(&self, t: u32) -> bool
         requires { t < rows_count self.now }
         ensures { result ≡ (rows_of self.now).always t }

@@ -136,7 +136,6 @@ impl Slot {
     }
 }
 
-/// Removes the rows of the slots.
 fn clear_each(slots: &mut Vec<Slot>)
     ensures { slots.new.items ≡ blanked slots.old.items }
 {
@@ -154,7 +153,6 @@ fn search(slots: &[Slot], n: u32) -> Result<usize, usize>
     slots.binary_search_by_key(&n, |slot| slot.name())
 }
 
-/// Whether the slot at this place is that of the name.
 fn is_slot_at(slots: &[Slot], n: u32, place: usize) -> bool
     ensures { IsTrue result ↔ IsSlotOf slots.now n place }
 {
@@ -221,7 +219,6 @@ impl Model for Target {
 }
 
 impl Target {
-    /// No rows and no slots.
     pub fn new(alloc: Global) -> Target
         ensures { result ≡ bare }
     {
@@ -250,7 +247,6 @@ impl Target {
         self.find(n, guess).is_some()
     }
 
-    /// Whether there is an always row.
     pub fn always(&self) -> bool
         ensures { result ≡ self.now.always }
     {
@@ -323,7 +319,6 @@ impl Target {
         was
     }
 
-    /// An always row.
     pub fn put_always(&mut self)
         ensures { self.new ≡ record self.old { always = true } }
     {

@@ -51,7 +51,6 @@ fn mark_of_build(digest: Option<u32>, builds: u32) -> Mark
 }
 
 impl CompactCell {
-    /// A name that no command reported.
     pub fn idle() -> CompactCell
         ensures { result ≡ idle_cell }
     {

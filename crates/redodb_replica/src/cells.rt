@@ -22,7 +22,6 @@ impl Model for CompactCells {
 }
 
 impl CompactCells {
-    /// Nothing is known of any name.
     pub fn new(alloc: Global, names: u32) -> Result<CompactCells, AllocError>
         ensures { IfOk result (λ cells. cells ≡ replicate names idle_cell) }
     {
@@ -30,7 +29,6 @@ impl CompactCells {
         Ok(CompactCells { cells })
     }
 
-    /// What is known of a name.
     pub fn get(&self, n: u32) -> CompactCell
         requires { n < length self.now }
         ensures { result ≡ cell_at self.now n }

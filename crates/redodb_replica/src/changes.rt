@@ -49,7 +49,6 @@ fn change_each(graph: &Graph, cells: &CompactCells, rows: &mut PairRows, places:
     }
 }
 
-/// A created row of each of the pairs.
 fn create_each(graph: &Graph, rows: &mut PairRows, places: &[u32])
     requires rows { length rows.old ≡ length graph.now.tables.pairs.items }
     requires places { (count : ℕ) × HavePlaces graph.now.tables.pairs.items count places.now }
@@ -65,7 +64,6 @@ fn create_each(graph: &Graph, rows: &mut PairRows, places: &[u32])
     }
 }
 
-/// Removes the rows of the target.
 fn clear(graph: &Graph, rows: &mut PairRows, t: u32)
     requires rows { length rows.old ≡ length graph.now.tables.pairs.items }
     requires target { t < graph.now.tables.pairs.count }

@@ -34,7 +34,6 @@ fn push_if(names: &mut Vec<u32>, n: u32, is_due: bool) -> Result<(), AllocError>
     Ok(())
 }
 
-/// The place of the name in the order.
 fn rank_of(graph: &Graph, n: u32) -> u32
     requires ranks { AreRanks graph.now.sorted graph.now.ranks }
     requires name { Contains graph.now.sorted n }
@@ -204,14 +203,12 @@ pub(crate) fn targets(
     Ok(names)
 }
 
-/// Whether there is a change row or a created row.
 fn has_rows(row: Row) -> bool
     ensures { IsTrue result ↔ (IsSome (change_of row) ⊎ IsTrue row.created) }
 {
     row.change().is_some() || row.created
 }
 
-/// Whether some target has a row on it.
 fn has_row_on(graph: &Graph, rows: &PairRows, n: u32) -> bool
     requires name { n < graph.now.on.count }
     requires pairs_on { (m i : ℕ) → Contains graph.now.on.items (m, i)
@@ -229,7 +226,6 @@ fn has_row_on(graph: &Graph, rows: &PairRows, n: u32) -> bool
     false
 }
 
-/// Whether it is an idle name with a file.
 fn is_idle_file(cells: &CompactCells, n: u32) -> bool
     requires { n < length cells.now }
     ensures { IsTrue result ↔ (IsIdleIn cells.now n × HasFileIn cells.now n) }

@@ -35,7 +35,6 @@ impl Model for Memo {
 }
 
 impl Memo {
-    /// Nothing is out of date.
     pub(crate) fn new(alloc: Global, names: u32) -> Result<Memo, AllocError>
         ensures count { IfOk result (λ memo. memo_count memo.out ≡ names) }
         ensures right { IfOk result (λ memo. IsRight memo.out empty.records) }
@@ -45,7 +44,6 @@ impl Memo {
         Ok(Memo { out, seeds })
     }
 
-    /// Notes a seed, if there is one.
     pub(crate) fn note(&mut self, seed: Option<u32>)
         requires { IfSome seed (λ n. n < memo_count self.old.out) }
         ensures out { self.new.out ≡ self.old.out }

@@ -58,7 +58,6 @@ impl<'a> Model for Replica<'a> {
 }
 
 impl<'a> Replica<'a> {
-    /// Nothing is known of any name.
     pub fn new(alloc: Global, graph: &'a Graph, names: u32) -> Result<Replica<'a>, AllocError>
         requires { IsGraphFor names graph.now }
         ensures empty { IfOk result (λ replica. records_of replica ≡ empty.records) }
@@ -78,7 +77,6 @@ impl<'a> Replica<'a> {
         })
     }
 
-    /// The graph.
     pub fn graph(&self) -> &'a Graph
         ensures { result.now ≡ self.now.graph }
     {

@@ -104,7 +104,6 @@ fn sources_reply(
     Ok(Reply::Sources(sources(alloc, graph, cells, rows)?))
 }
 
-/// The digest with this number.
 fn digest_at(graph: &Graph, number: u32) -> [u8; 20]
     requires { number < length graph.now.tables.digests }
     ensures { slice_get graph.now.tables.digests number ≡ Some result }

@@ -29,7 +29,6 @@ pub struct Row {
 const _: () = prove!(size_of::<Row>() <= 8);
 
 impl Row {
-    /// No rows.
     pub fn bare() -> Row
         ensures { result ≡ bare }
     {
@@ -40,7 +39,6 @@ impl Row {
         }
     }
 
-    /// The mark of the change row, if there is one.
     pub fn change(&self) -> Option<Mark>
         ensures { result ≡ change_of self.now }
     {
@@ -72,7 +70,6 @@ impl Row {
         }
     }
 
-    /// The same with a created row.
     pub fn made(self) -> Row
         ensures { IsMade self result }
     {
@@ -99,7 +96,6 @@ impl Model for PairRows {
 }
 
 impl PairRows {
-    /// No rows, for this number of pairs.
     pub fn new(alloc: Global, pairs: usize) -> Result<PairRows, AllocError>
         ensures { IfOk result (λ rows. rows ≡ replicate pairs bare) }
     {
@@ -107,7 +103,6 @@ impl PairRows {
         Ok(PairRows { rows })
     }
 
-    /// The rows of the pair at this place.
     pub fn row(&self, place: u32) -> Row
         requires { place < length self.now }
         ensures { result ≡ row_at self.now place }
@@ -124,7 +119,6 @@ impl PairRows {
         self.rows[place as usize] = row.changed(mark);
     }
 
-    /// A created row of the pair.
     pub fn put_created(&mut self, place: u32)
         requires { place < length self.old }
         ensures { IsPut place IsMade self.old self.new }
@@ -133,7 +127,6 @@ impl PairRows {
         self.rows[place as usize] = row.made();
     }
 
-    /// Removes the rows of the pairs between these places.
     pub fn clear(&mut self, from: usize, to: usize)
         requires order { from ≤ to }
         requires places { to ≤ length self.old }

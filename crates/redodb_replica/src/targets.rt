@@ -22,7 +22,6 @@ pub(crate) fn is_target(cells: &CompactCells, t: u32) -> bool
     !matches!(cells.get(t).state, CompactState::Idle)
 }
 
-/// Whether there is a change row.
 pub(crate) fn has_change(row: &Row) -> bool
     ensures { IsTrue result ↔ IsSome (change_of row.now) }
 {

@@ -44,7 +44,6 @@ fn read_fault(file: usize, fault: ReadFault) -> Fault
     }
 }
 
-/// Reads the file of this number.
 fn read_file<R: Read>(
     alloc: Global,
     at: usize,

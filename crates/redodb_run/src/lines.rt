@@ -32,7 +32,6 @@ impl Span {
     }
 }
 
-/// Prints a line of the history.
 fn put_line(
     alloc: Global,
     text: &mut Vec<u8>,
@@ -82,7 +81,6 @@ pub(crate) struct Printed {
     pub(crate) spans: Vec<Span>,
 }
 
-/// Prints a chunk of the history.
 fn print_chunk(alloc: Global, lines: &[Line], names: &Names) -> Result<Printed, AllocError>
     requires { AreLinesBelow names.now lines.now }
     ensures { IfOk result (AreShown names.now lines.now) }

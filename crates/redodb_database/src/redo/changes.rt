@@ -35,7 +35,6 @@ fn change_each(rows: &mut DepRows, records: &Records, t: u32, names: &[u32])
     }
 }
 
-/// A created row of `t` on each of the names.
 fn create_each(rows: &mut DepRows, t: u32, names: &[u32])
     requires number { t < rows_count rows.old }
     requires numbers { AllBelow (rows_count rows.old) names.now }
@@ -173,7 +172,6 @@ impl Redo {
         change_each(&mut self.rows, &self.records, t, names);
     }
 
-    /// A created row of the target on each of the names.
     fn put_created(&mut self, t: u32, names: &[u32])
         requires number { t < tables_count self.old }
         requires numbers { AllBelow (tables_count self.old) names.now }
@@ -185,7 +183,6 @@ impl Redo {
         create_each(&mut self.rows, t, names);
     }
 
-    /// An always row of the target.
     fn put_always(&mut self, t: u32)
         requires number { t < tables_count self.old }
         requires building { IsTrue (is_building (target_state (tables_records self.old) t)) }

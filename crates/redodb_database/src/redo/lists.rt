@@ -124,7 +124,6 @@ impl Redo {
         self.is_idle(n) && !self.has_file(n)
     }
 
-    /// Whether some target has a change row on it.
     fn is_needed(&self, n: u32) -> bool
         requires { n < tables_count self.now }
         ensures { IsTrue result ↔ ((t : ℕ) × HasChangeRow (tables_records self.now) t n) }
@@ -132,7 +131,6 @@ impl Redo {
         self.rows.is_needed(n)
     }
 
-    /// Whether some target has a created row on it.
     fn is_awaited(&self, n: u32) -> bool
         requires { n < tables_count self.now }
         ensures { IsTrue result ↔ ((t : ℕ) × HasCreatedRow (tables_records self.now) t n) }
@@ -162,7 +160,6 @@ impl Redo {
         self.records.file(n).is_some()
     }
 
-    /// Whether its file has this stamp.
     pub(super) fn has_stamp(&self, n: u32, stamp: FileStamp) -> bool
         requires { n < tables_count self.now }
         ensures { result ≡ is_stamp_of ((tables_records self.now).cell n).file stamp }
@@ -184,7 +181,6 @@ impl Redo {
         }
     }
 
-    /// Whether it is being built.
     pub fn is_building(&self, t: u32) -> bool
         requires { t < tables_count self.now }
         ensures { result ≡ is_building (target_state (tables_records self.now) t) }

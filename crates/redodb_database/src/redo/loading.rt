@@ -40,7 +40,6 @@ impl Model for Loading {
     ghost invariant = { KeepsParts };
 }
 
-/// Puts the number into the set, or takes it out.
 fn set_held(held: &mut Bits, n: u32, is_held: bool)
     requires { n < length held.old }
     ensures { held.new ≡ slice_set held.old n is_held }
@@ -52,7 +51,6 @@ fn set_held(held: &mut Bits, n: u32, is_held: bool)
     }
 }
 
-/// All numbers below the count.
 fn all_numbers(alloc: Global, count: u32) -> Result<Vec<u32>, AllocError>
     ensures { IfOk result (λ numbers. (n : ℕ) → Contains numbers.items n ↔ (n < count)) }
 {
@@ -163,7 +161,6 @@ impl Loading {
         Ok(())
     }
 
-    /// A created row of `t` on `n`.
     pub fn put_created(&mut self, t: u32, n: u32) -> Result<(), AllocError>
         requires target { t < parts_count self.old }
         requires name { n < parts_count self.old }
@@ -177,7 +174,6 @@ impl Loading {
         Ok(())
     }
 
-    /// An always row of `t`.
     pub fn put_always(&mut self, t: u32)
         requires { t < parts_count self.old }
         ensures rows { rows_of self.new.rows ≡ with_always (rows_of self.old.rows) t }

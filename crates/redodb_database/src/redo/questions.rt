@@ -30,7 +30,6 @@ use redodb_commands::{Command, FileStamp, Reply};
 use redodb_records::{Cell, Slot, State};
 use std::alloc::{AllocError, Global};
 
-/// Whether it has a created row, or a change row.
 fn has_row(slot: &Slot, created: bool) -> bool
     ensures { result ≡ has_row created slot.now }
 {
@@ -114,7 +113,6 @@ impl Redo {
         self.records.cell(n)
     }
 
-    /// Its state.
     pub fn state(&self, n: u32) -> State
         requires { n < tables_count self.now }
         ensures { target_state_of result ≡ target_state (tables_records self.now) n }
@@ -122,7 +120,6 @@ impl Redo {
         self.records.state(n)
     }
 
-    /// The stamp of its file.
     pub fn file(&self, n: u32) -> Option<FileStamp>
         requires { n < tables_count self.now }
         ensures { result ≡ ((tables_records self.now).cell n).file }
@@ -130,7 +127,6 @@ impl Redo {
         self.records.file(n)
     }
 
-    /// The session that holds its lock.
     pub fn holder(&self, n: u32) -> Option<u16>
         requires { n < tables_count self.now }
         ensures { result ≡ (locks_of self.now).holder n }
@@ -138,7 +134,6 @@ impl Redo {
         self.holders[n as usize]
     }
 
-    /// How often its lock was granted.
     pub fn grants(&self, n: u32) -> u32
         ensures { result ≡ (locks_of self.now).grants n }
     {
@@ -160,7 +155,6 @@ impl Redo {
         self.rows.slots_of(t)
     }
 
-    /// Whether the target has an always row.
     pub fn always(&self, t: u32) -> bool
         requires { t < tables_count self.now }
         ensures { result ≡ (tables_records self.now).rows.always t }

@@ -142,7 +142,6 @@ impl Redo {
         }
     }
 
-    /// Grants a free lock.
     fn grant(&mut self, session: u16, t: u32)
         requires number { t < tables_count self.old }
         requires free { (locks_of self.old).holder t ≡ None }

@@ -37,7 +37,6 @@ fn fits(command: &Command, reply: &Reply, place: Place) -> bool
     }
 }
 
-/// Whether the entry's place fits its command and its reply.
 fn entry_fits(script: &Script, entry: &Entry) -> bool
     ensures { IsTrue result ↔ FitsScript (map item_of script.now) entry.now }
 {
@@ -48,7 +47,6 @@ fn entry_fits(script: &Script, entry: &Entry) -> bool
     }
 }
 
-/// Whether each entry's place fits it.
 fn journal_fits(script: &Script, entries: &[Entry]) -> bool
     ensures { MatchBool result
         ((k : ℕ) → FitsAt (map item_of script.now) entries.now k)

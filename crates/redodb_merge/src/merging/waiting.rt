@@ -16,7 +16,6 @@ pub(crate) struct Waiting {
     pub(crate) buckets: Vec<u64>,
 }
 
-/// The bucket of a row.
 fn row_bucket(row: u64) -> usize
     ensures { result ≡ row_bucket row }
 {
