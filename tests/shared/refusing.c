@@ -1,8 +1,7 @@
 // A malloc, a pthread_create and an open for tests. Refused are the request for memory whose number is FAIL_AT, counted
 // from 1, each one of more bytes than FAIL_ABOVE, the start of the thread whose number is FAIL_START, and each opening of
-// a file if FAIL_OPEN is set. At the end the file FAIL_REPORT has four counts: refusals of memory and threads, reports,
-// spared refusals, and threads that weren't joined. A test reports a refusal that it met by a request for as many bytes
-// as MARK, which is never refused. A refusal is spared if the same thread at once requests again, no more.
+// a file if FAIL_OPEN is set. At the end the file FAIL_REPORT has three counts: refusals of memory and threads, spared
+// refusals, and threads that weren't joined. A refusal is spared if the same thread at once requests again, no more.
 #define _GNU_SOURCE
 #include <dlfcn.h>
 #include <errno.h>
@@ -16,8 +15,6 @@
 #include <sys/syscall.h>
 #include <unistd.h>
 
-#define MARK 54321
-
 extern void *__libc_malloc(size_t);
 extern void *__libc_calloc(size_t, size_t);
 extern void *__libc_realloc(void *, size_t);
@@ -25,7 +22,7 @@ extern void *__libc_realloc(void *, size_t);
 typedef int create_of(pthread_t *, const pthread_attr_t *, void *(*)(void *), void *);
 typedef int join_of(pthread_t, void **);
 
-static atomic_ulong requests, starts, refused, told, spared, running;
+static atomic_ulong requests, starts, refused, spared, running;
 static unsigned long fail_at, fail_above, fail_start;
 static __thread size_t last_refused;
 static create_of *create;
@@ -49,22 +46,17 @@ __attribute__((destructor)) static void end(void) {
     const char *report = getenv("FAIL_REPORT");
     int file = report ? open(report, O_CREAT | O_WRONLY | O_TRUNC, 0600) : -1;
     if (file < 0) return;
-    dprintf(file, "%lu %lu %lu %lu\n", refused, told, spared, running);
+    dprintf(file, "%lu %lu %lu\n", refused, spared, running);
     close(file);
 }
 
-// a test with threads ends by _exit, which calls no destructor
+// a program with threads ends by _exit, which calls no destructor
 void _exit(int status) {
     end();
     for (;;) syscall(SYS_exit_group, status);
 }
 
 static int is_refused(size_t bytes) {
-    if (bytes == MARK) {
-        last_refused = 0;
-        atomic_fetch_add(&told, 1);
-        return 0;
-    }
     if (last_refused && bytes <= last_refused) atomic_fetch_add(&spared, 1);
     last_refused = 0;
     int is_its_turn = fail_at && atomic_fetch_add(&requests, 1) + 1 == fail_at;

@@ -11,7 +11,7 @@ class Sweep:
     """A run with its first request refused, its second one, and so on, until a run meets no refusal.
 
     `run` is called with the environment. It returns what is wrong with the run, and how often the run has reported
-    a refusal in its answers; a test reports it to the library."""
+    a refusal in its answers."""
 
     def __init__(self, library, variable, run):
         self.library, self.variable, self.run = library, variable, run
@@ -21,15 +21,14 @@ class Sweep:
     def step(self, at, report):
         """One run. Returns whether it met the refusal."""
         wanted = {self.variable: str(at), "FAIL_REPORT": report, "LD_PRELOAD": self.library}
-        fault, answered = self.run({**os.environ, **wanted})
+        fault, told = self.run({**os.environ, **wanted})
         try:
             with open(report) as counts:
-                refused, told, spared, running = map(int, counts.read().split())
+                refused, spared, running = map(int, counts.read().split())
         except (FileNotFoundError, ValueError):
             self.wrong.append(f"request {at}: no report; {fault}")
             return True
         os.remove(report)
-        told += answered
         spared = min(spared, 1)
         if running:
             fault = fault or f"{running} threads not joined"
