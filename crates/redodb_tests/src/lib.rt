@@ -1,29 +1,29 @@
-//! Tests of what no program can be asked and no contract says: of names, stamps and digests, of devices that fail, of
-//! copies, and of a conversation and a dump in memory. `tests/failing/refusals` runs some with each request for memory
-//! refused.
+//! Tests of what no program can be asked and no contract says: of names and stamps, of devices that fail, of a
+//! conversation in memory, and of the board and its gates: sessions on threads of their own, and every order of the
+//! steps of small plans.
 #![tactic(auto)]
 
 #[cfg(test)]
-mod calls;
-#[cfg(test)]
-mod copies;
-#[cfg(test)]
 mod devices;
 #[cfg(test)]
-mod digests;
-#[cfg(test)]
-mod dumps;
-#[cfg(test)]
-mod failing;
+mod gates;
 #[cfg(test)]
 mod histories;
 #[cfg(test)]
 mod names;
 #[cfg(test)]
-mod records;
+mod order;
 #[cfg(test)]
-mod refusals;
+mod outcomes;
 #[cfg(test)]
-mod retried;
+mod plans;
+#[cfg(test)]
+mod runs;
+#[cfg(test)]
+mod schedules;
+#[cfg(test)]
+mod seats;
 #[cfg(test)]
 mod served;
+#[cfg(test)]
+mod stamps;

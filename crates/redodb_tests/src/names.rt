@@ -2,10 +2,16 @@
 use redodb_names::{Names, NamesFault, Turn, is_name};
 use std::process::Abort;
 
-/// Adds the name with this text, if there are fewer than so many.
-fn add(rt: &impl Abort, names: &mut Names, text: &str, most: u32) -> Result<u32, NamesFault> {
+/// The number of the name with this text, which is added if there are fewer than so many.
+fn added(rt: &impl Abort, names: &mut Names, text: &str, most: u32) -> Option<u32> {
     assert!(rt; is_name(text.as_bytes()));
-    names.add(text.as_bytes(), most)
+    match names.add(text.as_bytes(), most) {
+        Ok(number) => Some(number),
+        Err(fault) => {
+            assert!(rt; matches!(fault, NamesFault::Full));
+            None
+        }
+    }
 }
 
 /// The follower that was noted last is given, if it is a name and came after one. There are four names.
@@ -23,35 +29,29 @@ fn check_followers(rt: &impl Abort, names: &mut Names, turn: Turn) {
     }
 }
 
-fn check_notes(rt: &impl Abort, names: &mut Names) -> Result<(), NamesFault> {
+#[test]
+fn followers(rt: HostRuntime) {
+    let mut names = Names::new(rt.alloc());
     for (text, want) in [("b", 0), ("a", 1), ("b", 0), ("a.c", 2), ("B", 3), ("a", 1)] {
-        assert!(rt; add(rt, names, text, 9)? == want);
+        assert!(rt; added(&rt, &mut names, text, 9) == Some(want));
     }
-    check_followers(rt, names, Turn::First);
+    check_followers(&rt, &mut names, Turn::First);
     assert!(rt; names.follower(3, Turn::Next).is_none());
-    check_followers(rt, names, Turn::Next);
-    Ok(())
+    check_followers(&rt, &mut names, Turn::Next);
 }
 
+/// If only two names are allowed, a third is a fault, and the two are still found.
 #[test]
-fn followers(rt: HostRuntime) -> Result<(), NamesFault> {
+fn two_names(rt: HostRuntime) {
     let mut names = Names::new(rt.alloc());
-    check_notes(&rt, &mut names)
-}
-
-/// Only two names are allowed: a third is a fault, and the two are still found.
-fn check_two(rt: &impl Abort, names: &mut Names) -> Result<(), NamesFault> {
-    for (text, most, want) in [("a", 2, 0), ("b", 2, 1), ("a", 2, 0), ("b", 1, 1)] {
-        assert!(rt; add(rt, names, text, most)? == want);
+    for (text, most, want) in [
+        ("a", 2, Some(0)),
+        ("b", 2, Some(1)),
+        ("a", 2, Some(0)),
+        ("b", 1, Some(1)),
+        ("c", 2, None),
+        ("c", 3, Some(2)),
+    ] {
+        assert!(rt; added(&rt, &mut names, text, most) == want);
     }
-    let one_more = add(rt, names, "c", 2);
-    assert!(rt; matches!(one_more, Err(NamesFault::Full)));
-    assert!(rt; add(rt, names, "c", 3)? == 2);
-    Ok(())
-}
-
-#[test]
-fn two_names(rt: HostRuntime) -> Result<(), NamesFault> {
-    let mut names = Names::new(rt.alloc());
-    check_two(&rt, &mut names)
 }

@@ -17,6 +17,11 @@ const OUTPUT: &[u8] = b"redodb-live test restored 0\n1 lock a.o => granted 1\n\
 const LOGGED: &[u8] = b"redodb-log 1\n1 lock a.o => granted 1\n1 start a.o => ok\n\
     1 failed a.o => ok\n1 unlock a.o => ok\n";
 
+/// The greeting, and the log before a line is answered.
+const GREETING: &[u8] = b"redodb-live test restored 0\n";
+
+const HEADER: &[u8] = b"redodb-log 1\n";
+
 /// Reads these lines over a new log.
 fn served(alloc: Global, devices: &mut MemoryDevices) -> Result<(), ServeFault>
     requires { devices.old ≡ [] }
@@ -29,24 +34,20 @@ fn served(alloc: Global, devices: &mut MemoryDevices) -> Result<(), ServeFault>
     serve(alloc, "test", keeping, &mut Watched::new(INPUT), devices)
 }
 
+/// A conversation is answered and logged. A line that changes something isn't answered if the log takes no byte of it:
+/// the operations before it are a read, the header, and the greeting.
 #[test]
-fn whole(rt: HostRuntime) {
-    let mut devices = MemoryDevices::new(rt.alloc(), Vec::new(rt.alloc()), Failing::never());
-    assert!(rt; served(rt.alloc(), &mut devices) == Ok(()));
-    assert!(rt; devices.output() == OUTPUT);
-    assert!(rt; devices.log() == LOGGED);
-}
-
-/// A line that changes something isn't answered if the log takes no byte of it.
-#[test]
-fn full_log(rt: HostRuntime) {
-    // The operations before it are a read, the header, and the greeting.
-    let failing = Failing {
-        number: 4,
-        ..Failing::never()
-    };
-    let mut devices = MemoryDevices::new(rt.alloc(), Vec::new(rt.alloc()), failing);
-    assert!(rt; served(rt.alloc(), &mut devices) == Err(ServeFault::Log(LogFault::Write)));
-    assert!(rt; devices.output() == b"redodb-live test restored 0\n".as_slice());
-    assert!(rt; devices.log() == b"redodb-log 1\n".as_slice());
+fn conversations(rt: HostRuntime) {
+    for (number, wanted, output, logged) in [
+        (0, Ok(()), OUTPUT, LOGGED),
+        (4, Err(ServeFault::Log(LogFault::Write)), GREETING, HEADER),
+    ] {
+        let failing = Failing {
+            number,
+            ..Failing::never()
+        };
+        let mut devices = MemoryDevices::new(rt.alloc(), Vec::new(rt.alloc()), failing);
+        assert!(rt; served(rt.alloc(), &mut devices) == wanted);
+        assert!(rt; devices.output() == output && devices.log() == logged);
+    }
 }

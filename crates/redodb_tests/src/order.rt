@@ -1,14 +1,13 @@
 //! The orders in which sessions can take their turns.
 ghost use Rattle.std.specs.Prelude.{◌<◌, length, IfSome};
 
-use redodb_journal::Plan;
 use std::alloc::{AllocError, Global};
 
-/// The sessions' turns, one for each line, the first session's first.
-pub(crate) fn first_schedule(alloc: Global, plan: &Plan) -> Result<Vec<usize>, AllocError> {
+/// The sessions' turns, as many of each as this, the first session's first.
+pub(crate) fn first_order(alloc: Global, steps: &[usize]) -> Result<Vec<usize>, AllocError> {
     let mut turns = Vec::new(alloc);
-    for (session, script) in plan.scripts().iter().enumerate() {
-        for _ in script.items() {
+    for (session, &count) in steps.iter().enumerate() {
+        for _ in 0..count {
             turns.push(session)?;
         }
     }

@@ -1,6 +1,6 @@
 use Rattle.std.proofs.Common.{All, length}
 use Rattle.redodb_board.specs.Kept.{SitsAt, IsFreshOf, WorksAt}
-use Rattle.redodb_tests_board.proofs.schedules.workers_of.Given as goal
+use Rattle.redodb_tests.proofs.schedules.workers_of.Given as goal
 
 abbrev pub invariant-loop-session : goal.invariant-loop-session
 invariant-loop-session l = record {

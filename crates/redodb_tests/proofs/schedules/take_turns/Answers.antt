@@ -1,7 +1,7 @@
 use Rattle.std.proofs.Common.{slice_index_or}
 use Rattle.std.proofs.lemmas.List.Elements.{All-set}
 use Rattle.redodb_board.specs.Kept.{WorksAt}
-use Rattle.redodb_tests_board.proofs.schedules.take_turns.Goals as goal
+use Rattle.redodb_tests.proofs.schedules.take_turns.Goals as goal
 
 pub loop-turn-preserved : goal.loop-turn-preserved
 loop-turn-preserved g c =

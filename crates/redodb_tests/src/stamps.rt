@@ -1,4 +1,4 @@
-//! What is kept of each name.
+//! What a stamp takes.
 use redodb_commands::FileStamp;
 use std::mem::size_of;
 

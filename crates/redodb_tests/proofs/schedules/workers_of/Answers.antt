@@ -2,7 +2,7 @@ use Rattle.std.proofs.Common.{rules, ◌≡◌, ◌+◌, List, [], ◌∷◌, �
 use Rattle.std.proofs.lemmas.List.Elements.{All-push, All-same}
 use Rattle.redodb_board.specs.declared.worker.Worker.{Worker}
 use Rattle.redodb_board.specs.Kept.{IsFreshOf, WorksAt}
-use Rattle.redodb_tests_board.proofs.schedules.workers_of.Goals as goal
+use Rattle.redodb_tests.proofs.schedules.workers_of.Goals as goal
 
 pub loop-session-preserved : goal.loop-session-preserved
 loop-session-preserved c =
