@@ -13,7 +13,7 @@ use std::process::{Child, Command, Stdio};
 use std::sync::atomic::{AtomicU32, Ordering};
 use std::sync::Mutex;
 use std::thread;
-use std::time::{Duration, Instant};
+use std::time::{Duration, Instant, SystemTime};
 
 use redo_wire::{Call, Program, Surroundings, ToProgram};
 
@@ -178,20 +178,32 @@ fn start(folder: &Path, live: &Path) -> Child {
 /// The database: REDODB_LIVE, else the stand-in in plain Rust.
 fn live() -> PathBuf {
     let mut live = LIVE.lock().unwrap();
-    live.get_or_insert_with(|| {
-        if let Some(chosen) = env::var_os("REDODB_LIVE") {
-            return PathBuf::from(chosen);
-        }
-        let made = Path::new(env!("CARGO_TARGET_TMPDIR")).join("redodb-live-plain");
-        let source = Path::new(env!("CARGO_MANIFEST_DIR")).join("../../bench/rivals/live/plain.rs");
-        let mut command = Command::new("rustc");
-        command
-            .args(["--edition", "2021", "-O"])
-            .arg(source)
-            .arg("-o")
-            .arg(&made);
-        assert!(command.status().unwrap().success());
-        made
-    })
-    .clone()
+    live.get_or_insert_with(|| env::var_os("REDODB_LIVE").map_or_else(stand_in, PathBuf::from))
+        .clone()
+}
+
+/// The stand-in that `redo/build` has built, or that of an earlier test; else it is compiled now.
+fn stand_in() -> PathBuf {
+    let here = Path::new(env!("CARGO_MANIFEST_DIR"));
+    let sources = here.join("../../bench/rivals");
+    let built = here.join("../target/release/redodb-live-plain");
+    let made = Path::new(env!("CARGO_TARGET_TMPDIR")).join("redodb-live-plain");
+    let changed = last_change(&sources);
+    let is_new = |program: &&PathBuf| program.exists() && last_change(program) > changed;
+    if let Some(program) = [&built, &made].into_iter().find(is_new) {
+        return program.clone();
+    }
+    let mut command = Command::new("rustc");
+    command.args(["--edition", "2021", "-O"]);
+    command.arg(sources.join("live/plain.rs"));
+    assert!(command.arg("-o").arg(&made).status().unwrap().success());
+    made
+}
+
+/// When a file was changed, or the last one of a folder.
+fn last_change(path: &Path) -> SystemTime {
+    let own = fs::metadata(path).unwrap().modified().unwrap();
+    let parts = fs::read_dir(path).into_iter().flatten();
+    let changes = parts.map(|part| last_change(&part.unwrap().path()));
+    changes.fold(own, SystemTime::max)
 }
