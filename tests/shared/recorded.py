@@ -202,8 +202,8 @@ class Database:
     def told_of(self, name: str) -> str:
         """The six words about a name in the answer about all."""
         cell = self.known(name)
-        words = [cell.file, cell.state.value, str(cell.builds), cell.done, cell.digest]
-        return " ".join([name, *("-" if word is None else word for word in words)])
+        state, builds = cell.state.value, cell.builds
+        return f"{name} {cell.file or '-'} {state} {builds} {cell.done or '-'} {cell.digest or '-'}"
 
     def is_right(self, question: str, name: str, answer: str) -> bool:
         """Whether this is an answer to one of the questions about a name."""
