@@ -112,19 +112,6 @@ fn put_in_place(rt: &HostRuntime, name: &str, new: &str, log: &File) -> Result<b
     Ok(sync_open_folder(&folder).is_ok())
 }
 
-/// Fills the new file, and gives it the name of the log. Returns whether the folder could be synced.
-fn replace_by(
-    rt: &HostRuntime,
-    name: &str,
-    new: &str,
-    log: &File,
-    file: &mut File,
-    bytes: &[u8],
-) -> Result<bool, KeepCause> {
-    fill(file, log, bytes)?;
-    put_in_place(rt, name, new, log)
-}
-
 /// Puts a new file with these bytes in the place of a log that has this name. Until then, its name is `new`. Returns the
 /// file, and whether the folder could be synced.
 pub fn replace(
@@ -135,7 +122,8 @@ pub fn replace(
     bytes: &[u8],
 ) -> Result<(File, bool), KeepCause> {
     let mut file = open_new(rt, new, bytes)?;
-    match replace_by(rt, name, new, log, &mut file, bytes) {
+    let filled = fill(&mut file, log, bytes);
+    match filled.and_then(|()| put_in_place(rt, name, new, log)) {
         Ok(is_synced) => Ok((file, is_synced)),
         Err(cause) => {
             let _ = fs::remove_file(rt, new);
