@@ -5,6 +5,8 @@
 
 use std::fs;
 use std::os::unix::ffi::OsStrExt;
+use std::thread;
+use std::time::{Duration, Instant};
 
 use crate::system;
 use crate::text::{joined, path};
@@ -19,19 +21,42 @@ struct Process {
     session: i32,
 }
 
+/// So long what was killed may take to end.
+const MOST_WAIT: Duration = Duration::from_millis(500);
+const PAUSE: Duration = Duration::from_millis(2);
+
 /// Kills the groups of a run that are named, and those that a script leads, if they have a process
 /// with the run's path in its environment. What an ended script left in the background leads none.
+///
+/// Waits until all of these processes have ended: one that is killed in the midst of a call may
+/// make a file yet.
 pub fn kill(run: &[u8], groups: &[i32]) {
     if !is_proc_ours() {
         return;
     }
+    let began = Instant::now();
     let variable = joined(&[b"REDO_RUN=", run]);
-    for process in processes_with(&variable) {
-        let leads = process.number == process.group && process.group != process.session;
-        if leads || groups.contains(&process.group) {
-            let _ = system::signal_group(process.group, libc::SIGKILL); // it may be gone by now
+    loop {
+        let strays = strays_with(&variable, groups);
+        if strays.is_empty() || began.elapsed() > MOST_WAIT {
+            return;
         }
+        for stray in strays {
+            let _ = system::signal_group(stray.group, libc::SIGKILL); // it may be gone by now
+        }
+        thread::sleep(PAUSE);
     }
+}
+
+/// Returns the processes that have a variable, and are of one of the groups or of one that a script
+/// leads. One that has ended has no variables.
+fn strays_with(variable: &[u8], groups: &[i32]) -> Vec<Process> {
+    let mut strays = processes_with(variable);
+    strays.retain(|process| {
+        let leads = process.number == process.group && process.group != process.session;
+        leads || groups.contains(&process.group)
+    });
+    strays
 }
 
 /// Says whether a process is there and hasn't ended, as far as /proc tells that.
@@ -80,6 +105,8 @@ fn process(number: i32) -> Option<Process> {
 
 #[cfg(test)]
 mod tests {
+    use std::process::Command;
+
     use super::*;
 
     #[test]
@@ -90,6 +117,25 @@ mod tests {
         assert_eq!(process(i32::MAX), None);
         assert!(is_there(own) && !is_there(i32::MAX));
         assert!(is_proc_ours());
+    }
+
+    #[test]
+    fn what_is_killed_has_ended_then() {
+        let run = format!("/no/such/run.{}", std::process::id());
+        for _ in 0..50 {
+            let mut script = Command::new("setsid")
+                .args(["sh", "-c", "while :; do : >/dev/null; done"])
+                .env("REDO_RUN", &run)
+                .spawn()
+                .unwrap();
+            let number = script.id() as i32;
+            while process(number).map_or(true, |found| found.group != number) {
+                thread::sleep(PAUSE);
+            }
+            kill(run.as_bytes(), &[number]);
+            assert!(!is_there(number));
+            script.wait().unwrap();
+        }
     }
 
     #[test]
