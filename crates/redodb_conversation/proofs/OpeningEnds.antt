@@ -71,11 +71,11 @@ module _ (salvage : Bool) (version : Text) (past : Past) (bytes : Text) (kept : 
     (all : EndsAll (past_lines past ++ is.lines) opened.live header opened.logged.items)
   where
     log_is : take kept.restored.bytes bytes ++ opened.logged.items
-        ≡ head_of past ++ lines_text_of is.lines ++ lines_text_of (lines_in all.ends)
+        ≡ head_of past ++ lines_text_of is.lines ++ lines_text_of (lines_in all.some.ends)
     log_is =
         let first = take kept.restored.bytes bytes in
-        let ends = lines_text_of (lines_in all.ends) in
-        ap (λ (t : Text). first ++ t) all.logs ∙ sym (append_assoc first header ends)
+        let ends = lines_text_of (lines_in all.some.ends) in
+        ap (λ (t : Text). first ++ t) all.some.logs ∙ sym (append_assoc first header ends)
         ∙ ap (λ (t : Text). t ++ ends)
         (kept_text past bytes kept.restored.bytes is.lines is.are_kept header header_is)
 
@@ -86,19 +86,19 @@ module _ (salvage : Bool) (version : Text) (past : Past) (bytes : Text) (kept : 
         ++ decimal kept.restored.lines)
         → IsOpenedFrom salvage version past bytes opened
     opened_from size rest dump greeting = record {
-      former = record { past = past; lines = is.lines; ends = all.ends };
+      former = record { past = past; lines = is.lines; ends = all.some.ends };
       past_is = refl;
       restored = is.restored;
       ended = all.ended;
-      left = all.left;
-      logged = all.logged_lines;
+      left = all.some.left;
+      logged = all.some.logged_lines;
       within = rw size is.within;
       lines = rw size (lines_kept past bytes kept.restored.bytes is.lines is.are_kept);
       rest = rw (size, rest) is.rest;
       log = rw size log_is;
       dump = some_then opened.dump _ _
-          (λ d of. of (past_lines past ++ is.lines ++ lines_in all.ends)
-          all.logged_lines all.left) dump;
+          (λ d of. of (past_lines past ++ is.lines ++ lines_in all.some.ends)
+          all.some.logged_lines all.some.left) dump;
       greeting = greeting
           ∙ ap (λ n. ended (codes "redodb-live " ++ version ++ codes " restored " ++ decimal n))
           is.count;

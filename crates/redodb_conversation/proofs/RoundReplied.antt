@@ -32,8 +32,9 @@ use Rattle.redodb_conversation.specs.Support.Requests.{Requests, RequestsBadly}
 use Rattle.redodb_conversation.specs.declared.request.Request.TheVariants as requests
 use Rattle.redodb_conversation.specs.Support.Replies.{IsReplied, AppendsRound, WouldReply, IsPutOffFor, IsUndoneFor, IsInquiryFaultFor}
 use Rattle.redodb_conversation.proofs.LoggedPrefixes.{logs_prefix}
+use Rattle.redodb_keeping.proofs.EndedAll.{as_known}
 use Rattle.redodb_keeping.proofs.HeldNames.{held_are_known}
-use Rattle.redodb_conversation.proofs.Steps.{all_change, as_known, one_logged}
+use Rattle.redodb_conversation.proofs.Steps.{all_change, one_logged}
 
 pub done_is_step : (old new : Known) (round : Round) → IsReplied replies.Done old new round
     → IsStep old new round

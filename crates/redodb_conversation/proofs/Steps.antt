@@ -10,10 +10,8 @@ use Rattle.redodb_model.specs.Changes.{changes, changing_from}
 use Rattle.redodb_model.specs.Support.Ending.{okay_line, closing_lines_of}
 use Rattle.redodb_history.specs.Histories.{line_text_of}
 use Rattle.redodb_live.specs.Support.Answered.{logged_text}
-use Rattle.redodb_live.specs.Support.LiveState.{LiveState, IsAsKnown}
 use Rattle.redodb_live.specs.Lines.{lines_text_of}
 use Rattle.redodb_conversation.specs.Logs.{logged_of}
-use Rattle.redodb_keeping.specs.Support.Steps.{known_of}
 
 -- what one line logs
 pub one_logged : (st : State Text) (line : Line Text)
@@ -51,8 +49,3 @@ closing_changes s plan (t ∷ ts) st =
 pub all_change : (st : State Text) (s : ℕ) (ts : List Text) (lines : List (Line Text))
     → lines ≡ closing_lines_of s st ts → changing_from texts st lines ≡ lines
 all_change st s ts lines e = ap (changing_from texts st) e ∙ closing_changes s st ts st ∙ sym e
-
--- the same is known
-pub as_known : (old new : LiveState) → IsAsKnown old new → known_of new ≡ known_of old
-as_known old new same =
-    λ i. record { names = same.names i; state = same.state i; calls = same.calls i }

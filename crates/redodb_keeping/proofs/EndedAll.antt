@@ -20,14 +20,14 @@ use Rattle.redodb_model.proofs.Texts.{texts_are_names}
 use Rattle.redodb_history.specs.Histories.{line_text_of}
 use Rattle.redodb_history.specs.Support.HistoryTexts.{IsLineSaid}
 use Rattle.redodb_live.specs.Support.Ended.{without_each}
-use Rattle.redodb_live.specs.Support.LiveState.{LiveState, state_in}
+use Rattle.redodb_live.specs.Support.LiveState.{LiveState, IsAsKnown, state_in}
 use Rattle.redodb_live.specs.Support.Appended.{EndsSession}
 use Rattle.redodb_live.specs.Lines.{lines_text_of}
 use Rattle.redodb_live.proofs.EndingAll.{held_out, built_out}
 use Rattle.redodb_log.specs.Logs.{AreLogged}
 use Rattle.redodb_keeping.specs.Rounds.{Round, AreEnds, AreRounds, end_word, end_text_of, lines_in}
 use Rattle.redodb_keeping.specs.Openings.{HoldsNothing}
-use Rattle.redodb_keeping.specs.Support.Opening.{EndsAll}
+use Rattle.redodb_keeping.specs.Support.Opening.{EndsSome, EndsAll}
 use Rattle.redodb_keeping.specs.Support.Steps.{known_of, Known, LeadsTo, Ending, AreSteps}
 use Rattle.redodb_keeping.proofs.LawfulLines.{rounds_said, rounds_names}
 use Rattle.redodb_keeping.proofs.Led.{ending_leads, ending_round, steps_lead}
@@ -108,6 +108,24 @@ pub record AreEndedSoFar (old new : LiveState) (sessions : List ℕ) (logged log
   pub endings : AreEndings (known_of old) (known_of new) rounds
   pub left : state_in new ≡ without_each sessions (state_in old)
   pub logs : logged_after ≡ logged ++ lines_text_of (lines_in rounds)
+
+-- the same is known
+pub as_known : (old new : LiveState) → IsAsKnown old new → known_of new ≡ known_of old
+as_known old new same =
+    λ i. record { names = same.names i; state = same.state i; calls = same.calls i }
+
+-- the same, when nothing more was done
+pub left_alone : (old middle new : LiveState) (sessions : List ℕ) (logged said said_after : Text)
+    → IsAsKnown middle new → said_after ≡ said → AreEndedSoFar old middle sessions logged said
+    → AreEndedSoFar old new sessions logged said_after
+left_alone old middle new sessions logged said said_after is same so_far = record {
+  rounds = so_far.rounds;
+  asked = so_far.asked;
+  endings = subst (λ k. AreEndings (known_of old) k so_far.rounds) (sym (as_known middle new is))
+      so_far.endings;
+  left = is.state ∙ so_far.left;
+  logs = same ∙ so_far.logs;
+}
 
 -- the same, when one session more ended
 without_more : (sessions : List ℕ) (s : ℕ) (st : State Text)
@@ -208,6 +226,16 @@ module _ (before : List (Line Text)) (old new : LiveState) (left : LeadsTo befor
           few_names = rounds_names before so_far.rounds rounds logged.few_names;
         }
 
+    -- these ended
+    pub some_ended : AreLogged before → EndsSome before new logged middle
+    some_ended are_logged = record {
+      ends = so_far.rounds;
+      are_ends = are_ends;
+      left = led;
+      logged_lines = ends_logged are_logged;
+      logs = so_far.logs;
+    }
+
     -- all of them ended
     pub all_ended : AreLogged before → IsStrictlyIncreasing sessions
         → ((s : ℕ) → Contains sessions s
@@ -215,8 +243,9 @@ module _ (before : List (Line Text)) (old new : LiveState) (left : LeadsTo befor
         → ((t : Text) (s : ℕ) → target_state (state_in old).records t ≡ Building s
         → Contains sessions s)
         → EndsAll before new logged middle
+    unfolding some_ended
     all_ended are_logged ascending holders builds = record {
-      ends = so_far.rounds;
+      some = some_ended are_logged;
       ended = record {
         sessions = sessions;
         holders = λ s. subst (λ (st : State Text). Contains sessions s
@@ -226,7 +255,4 @@ module _ (before : List (Line Text)) (old new : LiveState) (left : LeadsTo befor
         are_ends = are_ends;
         nothing = nothing_held (λ t s is. (holders s).1 (t, is)) builds;
       };
-      left = led;
-      logged_lines = ends_logged are_logged;
-      logs = so_far.logs;
     }

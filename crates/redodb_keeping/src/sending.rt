@@ -1,4 +1,4 @@
-ghost use Rattle.std.specs.Prelude.{◌≡◌, ◌⊎◌, ◌+◌, ◌≤◌, ◌++◌, [], OnOk, OnErr, IfErr, decimal, length};
+ghost use Rattle.std.specs.Prelude.{◌≡◌, ◌⊎◌, ◌+◌, ◌<◌, ◌≤◌, ◌++◌, ◌↔◌, [], true, OnOk, OnErr, IfErr, decimal, length};
 ghost use Rattle.redodb_live.specs.Support.AnswerFaults.{IsUnwrittenFor};
 ghost use Rattle.redodb_keeping.specs.Rounds.{fault_text_of};
 ghost use Rattle.redodb_keeping.specs.Support.Sending.{IsKeptBack, IsSent, IsSentInPart, IsFaultSentInPart, IsSendCause, sent_after};
@@ -38,7 +38,11 @@ impl Unsent {
         }
     }
 
-    pub fn is_much(&self) -> bool {
+    /// Whether there is so much that it is sent without waiting for more.
+    pub fn is_much(&self) -> bool
+        ensures { (result ≡ true) ↔ ((65536 < length self.now.output.items)
+            ⊎ (65536 < length self.now.logged.items)) }
+    {
         self.output.len() > MANY || self.logged.len() > MANY
     }
 

@@ -11,7 +11,7 @@ use Rattle.redodb_log.specs.declared.devices.Unread.{Unread as NotRead}
 use Rattle.redodb_log.specs.declared.devices.Unread.TheVariants as reads
 use Rattle.redodb_log.specs.declared.restoring.RestoreFault.{RestoreFault}
 use Rattle.redodb_log.specs.declared.restoring.RestoreFault.TheVariants as restores
-use Rattle.redodb_keeping.specs.Rounds.{Round, lines_in}
+use Rattle.redodb_keeping.specs.Rounds.{Round, AreEnds, lines_in}
 use Rattle.redodb_keeping.specs.Openings.{AreRestored, AreEnded}
 use Rattle.redodb_keeping.specs.Support.Steps.{LeadsTo, known_of}
 use Rattle.redodb_keeping.specs.declared.fault.ServeFault.{ServeFault}
@@ -30,14 +30,20 @@ unrestored restores.Worn = Worn
 unrestored (restores.State line) = State line
 unrestored (restores.Differs line count size) = Differs line
 
--- after these lines the sessions that held something ended, and the lines of that were appended
-pub record EndsAll (before : List (Line Text)) (live : LiveState) (logged logged_after : Text)
+-- after these lines sessions ended, and the lines of that were appended
+pub record EndsSome (before : List (Line Text)) (live : LiveState) (logged logged_after : Text)
     : Type 0 where
   pub ends : List Round
-  pub ended : AreEnded before ends
+  pub are_ends : AreEnds before ends
   pub left : LeadsTo (before ++ lines_in ends) (known_of live)
   pub logged_lines : AreLogged (before ++ lines_in ends)
   pub logs : logged_after ≡ logged ++ lines_text_of (lines_in ends)
+
+-- these are all sessions that held something
+pub record EndsAll (before : List (Line Text)) (live : LiveState) (logged logged_after : Text)
+    : Type 0 where
+  pub some : EndsSome before live logged logged_after
+  pub ended : AreEnded before some.ends
 
 module _ (past : Past) where
   -- what comes after the first bytes of a log, which are kept

@@ -64,7 +64,7 @@ returns-clause-opened c = λ past has.
       growth = c.new.result;
       greeting = c.in_ok-greeting.greeting;
     })
-    (c.in_ok-end_all.ensures (past_lines past ++ is.lines) is.logged is.left) refl refl dump_is
+    (c.in_ok-end_all.ensures.ended (past_lines past ++ is.lines) is.logged is.left) refl refl dump_is
     c.in_ok-greeting.ensures
 
 pub returns-clause-within : goal.returns-clause-within
