@@ -16,6 +16,8 @@ TEXT = KEPT + "1 ood => ok\n" + LINE * 2000
 LEFT = KEPT + "1 unlock a => ok\n"
 PIECE = 8192
 LENGTHS = 0, 1, PIECE - 1, PIECE, PIECE + 1, len(TEXT) - 1, len(TEXT)
+# a user who isn't root
+NOBODY = 65_534
 
 
 class Copies:
@@ -65,6 +67,28 @@ class Copies:
                 self.checks.check(name, self.copy.stat().st_mode & 0o777, mode)
                 self.copy.unlink()
         self.log.unlink()
+
+    def of_another_user(self) -> None:
+        """What another user began stays as it is, even if anybody may write there."""
+        if os.geteuid():
+            self.checks.skip("a copy of another user: only root can make it")
+            return
+        program = Path(shutil.copy(self.program, self.folder / "program"))
+        # any user may run it
+        for path in self.folder.parent, self.folder, program:
+            path.chmod(0o755)
+        self.log.write_text(TEXT)
+        os.chown(self.log, NOBODY, NOBODY)
+        self.copy.write_text(TEXT[:PIECE])
+        self.copy.chmod(0o666)
+        user = {"user": NOBODY, "group": NOBODY, "extra_groups": []}
+        got = ended(program, "1 lock a\n", "--log", str(self.log), "--salvage", **user)
+        name = "a copy of another user"
+        self.checks.check(name, got, fault(f"{self.copy}: is there already"))
+        self.checks.check(f"{name}: log", self.log.read_text() == TEXT, True)
+        self.checks.check(f"{name}: copy", self.copy.read_text() == TEXT[:PIECE], True)
+        for path in self.log, self.copy, program:
+            path.unlink()
 
     def others(self) -> None:
         """A file that is no beginning of the log stays as it is."""
@@ -175,6 +199,7 @@ class Copies:
     def all(self) -> None:
         self.begun()
         self.of_a_private_log()
+        self.of_another_user()
         self.others()
         self.links()
         self.other_kinds()

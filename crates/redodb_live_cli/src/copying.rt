@@ -53,17 +53,27 @@ pub fn copy_beginning(file: &File, copy: &mut File) -> io::Result<bool> {
     Ok(copied(file, copy)?.is_some())
 }
 
+/// Lets a copy be read by whom the file may be read.
+fn share_alike(file: &File, copy: &File) -> io::Result<()> {
+    copy.set_permissions(file.metadata()?.permissions())
+}
+
 /// Opens a copy that is there, to append to it, and tells how many bytes it has. They are the first ones of the file: any
-/// other file stays closed, or as it is.
+/// other file stays closed, or as it is, and so does another user's.
 fn open_begun(rt: &HostRuntime, name: &str, file: &File) -> Result<(File, u64), LogFault> {
     let copy = match open_found(rt, name, OpenOptions::new().read(true).append(true)) {
         Ok(Some(copy)) => copy,
         Ok(None) | Err(OpenFault::CannotOpen) => return Err(LogFault::CannotCopy),
         Err(_) => return Err(LogFault::IsCopied),
     };
-    match copied(file, &copy) {
-        Ok(Some(length)) => Ok((copy, length)),
-        Ok(None) => Err(LogFault::IsCopied),
+    let length = match copied(file, &copy) {
+        Ok(Some(length)) => length,
+        Ok(None) => return Err(LogFault::IsCopied),
+        Err(_) => return Err(LogFault::CopyWrite),
+    };
+    match share_alike(file, &copy) {
+        Ok(()) => Ok((copy, length)),
+        Err(error) if error.kind() == ErrorKind::PermissionDenied => Err(LogFault::IsCopied),
         Err(_) => Err(LogFault::CopyWrite),
     }
 }
@@ -75,20 +85,22 @@ fn open_copy(rt: &HostRuntime, name: &str, file: &File) -> Result<(File, u64), L
         .create_new(true)
         .open(rt, name);
     match created {
-        Ok(copy) => Ok((copy, 0)),
+        Ok(copy) => match share_alike(file, &copy) {
+            Ok(()) => Ok((copy, 0)),
+            Err(_) => Err(LogFault::CopyWrite),
+        },
         Err(error) if error.kind() == ErrorKind::AlreadyExists => open_begun(rt, name, file),
         Err(_) => Err(LogFault::CannotCopy),
     }
 }
 
-/// Copies what a copy lacks to it, which may be read by whom the file may be read, and syncs it and its folder.
+/// Copies what a copy lacks to it, and syncs it and its folder.
 fn copy_synced(
     rt: &HostRuntime,
     name: &str,
     file: &File,
     (mut copy, start): (File, u64),
 ) -> io::Result<()> {
-    copy.set_permissions(file.metadata()?.permissions())?;
     copy_from(start, file, &mut copy)?;
     copy.sync_data()?;
     sync_folder(rt, name)
