@@ -78,7 +78,7 @@ class Midst:
 
     def large(self) -> None:
         """After a large dump more lines are needed."""
-        logs = ((count, compacted(dict(others(count)))) for count in range(40_000, 40_000 + SIZE))
+        logs = ((count, compacted(dict(others(count)))) for count in range(5_000, 5_000 + SIZE))
         count, head = next((count, log) for count, log in logs if len(log) * TIMES % SIZE == 0)
         self.checks.check("a large dump is large", len(head) * TIMES > LEAST, True)
         text = text_of(again(len(head) * TIMES // SIZE))

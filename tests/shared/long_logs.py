@@ -8,7 +8,7 @@ from shared.talks import HEADER as PLAIN_HEADER
 PLAIN = PLAIN_HEADER.encode()
 # a log whose lines have fewer bytes stays as it is, and so does one whose lines have less than so
 # many times the bytes of what comes before them
-LEAST, TIMES = 64 << 20, 8
+LEAST, TIMES = 64 << 20, 64
 # a line that gives a name of this length a file, and how many of these are reason enough
 NAME = 177
 SIZE = len(f"1 file {'a' * NAME} {'0' * 64} => ok\n")

@@ -25,7 +25,7 @@ const LEAST_LINES: usize = 4_194_304;
 const LEAST_IN_MIDST: usize = 67_108_864;
 
 /// In the midst of a conversation the lines have this many times the bytes of what comes before them.
-const TIMES_IN_MIDST: usize = 8;
+const TIMES_IN_MIDST: usize = 64;
 
 impl Compacting {
     /// How many bytes a log that begins with a dump may have, if it is time for one: the log has `head` bytes before its
