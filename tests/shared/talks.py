@@ -5,7 +5,7 @@ import re
 import select
 import subprocess
 from pathlib import Path
-from typing import IO, Iterable
+from typing import IO, Any, Iterable
 
 from shared.processes import Ended
 
@@ -54,7 +54,7 @@ def greeting(restored: int) -> str:
     return f"redodb-live 0.3.0 restored {restored}\n"
 
 
-def ended(program: Path, text: str, *words: str, **options: object) -> Ended:
+def ended(program: Path, text: str, *words: str, **options: Any) -> Ended:
     """What the program does with these words and this text on standard input. A byte is a letter."""
     run = subprocess.run([program, *words], input=text.encode("latin-1"), capture_output=True, check=False,
                          timeout=600, **options)
