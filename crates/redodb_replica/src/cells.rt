@@ -3,6 +3,7 @@ ghost use Rattle.redodb_replica.specs.declared.state.CompactState.TheVariants as
 ghost use Rattle.redodb_replica.specs.CompactCells.{idle_cell, cell_at};
 
 use crate::cell::CompactCell;
+use crate::state::CompactState;
 use std::alloc::{AllocError, Global};
 use std::marker::Model;
 
@@ -40,7 +41,7 @@ impl CompactCells {
         requires { n < length self.old }
         ensures { self.new ≡ slice_set self.old n (record (cell_at self.old n) { file = file }) }
     {
-        self.cells[n as usize].set_file(file);
+        self.cells[n as usize].file = file;
     }
 
     /// The session starts a build, without a digest and an always row so far.
@@ -52,7 +53,10 @@ impl CompactCells {
           always = false;
         }) }
     {
-        self.cells[t as usize].start(s);
+        let cell = &mut self.cells[t as usize];
+        cell.state = CompactState::Building(s);
+        cell.digest = None;
+        cell.always = false;
     }
 
     pub fn stamp(&mut self, t: u32, digest: u32)
@@ -60,7 +64,7 @@ impl CompactCells {
         ensures { self.new
             ≡ slice_set self.old t (record (cell_at self.old t) { digest = Some digest }) }
     {
-        self.cells[t as usize].stamp(digest);
+        self.cells[t as usize].digest = Some(digest);
     }
 
     /// The build ends with this file, or with none.
@@ -74,7 +78,11 @@ impl CompactCells {
           builds = (cell_at self.old t).builds + 1;
         }) }
     {
-        self.cells[t as usize].done(stamp);
+        let cell = &mut self.cells[t as usize];
+        cell.file = stamp;
+        cell.done = stamp;
+        cell.state = CompactState::Built;
+        cell.builds += 1;
     }
 
     pub fn failed(&mut self, t: u32)
@@ -82,13 +90,13 @@ impl CompactCells {
         ensures { self.new
             ≡ slice_set self.old t (record (cell_at self.old t) { state = coded.Failed }) }
     {
-        self.cells[t as usize].failed();
+        self.cells[t as usize].state = CompactState::Failed;
     }
 
     pub fn set_always(&mut self, t: u32)
         requires { t < length self.old }
         ensures { self.new ≡ slice_set self.old t (record (cell_at self.old t) { always = true }) }
     {
-        self.cells[t as usize].set_always();
+        self.cells[t as usize].always = true;
     }
 }

@@ -1,10 +1,7 @@
-ghost use Rattle.std.specs.Prelude.{◌≡◌, ◌+◌, ◌<◌, ◌≤◌, ◌^◌, ℕ, List, find, length};
+ghost use Rattle.std.specs.Prelude.{◌≡◌, ◌+◌, ◌<◌, ◌^◌, ℕ, List, length};
 ghost use Rattle.redodb_model.specs.Command as commands;
-ghost use Rattle.redodb_model.specs.State.{has_file};
 ghost use Rattle.redodb_graph.specs.declared.step.Step.TheVariants as steps;
-ghost use Rattle.redodb_replica.specs.declared.rows.Row.{Row};
 ghost use Rattle.redodb_replica.specs.declared.cell.CompactCell.{CompactCell};
-ghost use Rattle.redodb_replica.specs.Replicas.{records_in};
 ghost use Rattle.redodb_replica.specs.Support.Changes.{ArePlacesOf, AreBuilt, AreRowsAfter, AreSized, HasEffect, HavePlaces, IsReady, IsWithout};
 ghost use Rattle.redodb_replica.specs.Support.Entries.{HasNumber, HaveEntries, HaveMarks};
 ghost use Rattle.redodb_replica.specs.Support.Fits.{IsFit};
@@ -13,23 +10,6 @@ use crate::cells::CompactCells;
 use crate::laws::pairs_are_once;
 use crate::rows::PairRows;
 use redodb_graph::{Graph, Step};
-
-/// The first of the names of these pairs that has a file.
-pub(crate) fn first_with_file(graph: &Graph, cells: &CompactCells, places: &[u32]) -> Option<u32>
-    requires { HavePlaces graph.now.tables.pairs.items (length cells.now) places.now }
-    ensures { (rows : List Row) (t : ℕ) (names : List ℕ)
-        → ArePlacesOf graph.now.tables.pairs.items t names places.now
-        → result ≡ find (has_file (records_in graph.now.tables cells.now rows)) names }
-{
-    let pairs = graph.pairs();
-    for &place in places {
-        let name = pairs[place as usize].1;
-        if cells.get(name).file.is_some() {
-            return Some(name);
-        }
-    }
-    None
-}
 
 /// A change row of each of the pairs, with the mark that its name has now.
 fn change_each(graph: &Graph, cells: &CompactCells, rows: &mut PairRows, places: &[u32])

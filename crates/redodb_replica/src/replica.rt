@@ -14,7 +14,7 @@ ghost use Rattle.redodb_replica.specs.Support.Changes.{HasEffect};
 use crate::cells::CompactCells;
 use crate::changes::obey;
 use crate::memo::Memo;
-use crate::replies::reply;
+use crate::replies::answer;
 use crate::rows::PairRows;
 use crate::seed::seed_of;
 use crate::verdict::verdict;
@@ -116,17 +116,13 @@ impl<'a> Replica<'a> {
             → IsOk result }
         ensures same { self.new ≡ self.old }
     {
-        let memo = &mut self.memo;
-        reply(
-            alloc,
-            self.graph,
-            &self.cells,
-            &self.rows,
-            memo,
-            s,
-            step,
-            holds,
-        )
+        match self.verdict(s, step, holds) {
+            Some(refusal) => Ok(Reply::Refused(refusal)),
+            None => {
+                let memo = &mut self.memo;
+                answer(alloc, self.graph, &self.cells, &self.rows, memo, step)
+            }
+        }
     }
 
     /// Makes the change of a session's step, which can't fail.

@@ -1,25 +1,22 @@
 //! The reply to a step, from cells, rows and a memo of what is out of date, which is settled where a reply reads it.
 
-ghost use Rattle.std.specs.Prelude.{◌≡◌, ◌<◌, ℕ, List, None, Some, IfOk, IsOk, IsSome, false, length, slice_get};
+ghost use Rattle.std.specs.Prelude.{◌≡◌, ◌<◌, ℕ, List, None, Some, IfOk, IsOk, false, length, slice_get};
 ghost use Rattle.redodb_model.specs.Command as commands;
 ghost use Rattle.redodb_model.specs.Command.{asked_lock};
 ghost use Rattle.redodb_model.specs.Renaming.{IsReplyBelow};
-ghost use Rattle.redodb_model.specs.Step.{Replies, Tells, stale_reply, verdict_of};
+ghost use Rattle.redodb_model.specs.Step.{Tells, stale_reply};
 ghost use Rattle.redodb_commands.specs.Meaning.{reply_of};
 ghost use Rattle.redodb_graph.specs.Steps.{AreListed, Means};
-ghost use Rattle.redodb_replica.specs.declared.rows.Row.{Row};
 ghost use Rattle.redodb_replica.specs.Replicas.{IsStepBelow, records_in};
 ghost use Rattle.redodb_replica.specs.Replies.{lists_names, naming_in};
 ghost use Rattle.redodb_replica.specs.Support.Changes.{IsListReady};
 ghost use Rattle.redodb_replica.specs.Support.Fits.{IsFit};
-ghost use Rattle.redodb_replica.specs.Support.Lists.{IsLaidOut};
 ghost use Rattle.redodb_replica.specs.Support.Memos.{IsMemoOf};
 
 use crate::cells::CompactCells;
 use crate::lists::{ood, sources, stale, targets};
 use crate::memo::Memo;
 use crate::rows::PairRows;
-use crate::verdict::verdict;
 use redodb_commands::{Digest, Reply};
 use redodb_graph::{Graph, Listed, Step};
 use std::alloc::{AllocError, Global};
@@ -78,32 +75,6 @@ fn ood_reply(
     Ok(Reply::Ood(ood(alloc, graph, cells, memo.marks())?))
 }
 
-/// The targets that have a file.
-fn targets_reply(alloc: Global, graph: &Graph, cells: &CompactCells) -> Result<Reply, AllocError>
-    requires { IsLaidOut graph.now (length cells.now) }
-    ensures tells { (rows : List Row) → IfOk result (λ reply. Tells (naming_in graph.now)
-        (records_in graph.now.tables cells.now rows) commands.Targets (reply_of reply)) }
-    ensures below { IfOk result (λ reply. IsReplyBelow (length cells.now) (reply_of reply)) }
-{
-    Ok(Reply::Targets(targets(alloc, graph, cells)?))
-}
-
-/// The idle names that have a file and on which a target has a row.
-fn sources_reply(
-    alloc: Global,
-    graph: &Graph,
-    cells: &CompactCells,
-    rows: &PairRows,
-) -> Result<Reply, AllocError>
-    requires laid_out { IsLaidOut graph.now (length cells.now) }
-    requires sized { length rows.now ≡ length graph.now.tables.pairs.items }
-    ensures tells { IfOk result (λ reply. Tells (naming_in graph.now)
-        (records_in graph.now.tables cells.now rows.now) commands.Sources (reply_of reply)) }
-    ensures below { IfOk result (λ reply. IsReplyBelow (length cells.now) (reply_of reply)) }
-{
-    Ok(Reply::Sources(sources(alloc, graph, cells, rows)?))
-}
-
 fn digest_at(graph: &Graph, number: u32) -> [u8; 20]
     requires { number < length graph.now.tables.digests }
     ensures { slice_get graph.now.tables.digests number ≡ Some result }
@@ -138,41 +109,8 @@ pub(crate) fn answer(
         Step::IfChange(_, list) => stale_among(alloc, graph, cells, rows, memo, list),
         Step::Stamp(_, digest) => Ok(Reply::Stamped(Digest::new(digest_at(graph, *digest)))),
         Step::Ood => ood_reply(alloc, graph, cells, rows, memo),
-        Step::Targets => targets_reply(alloc, graph, cells),
-        Step::Sources => sources_reply(alloc, graph, cells, rows),
+        Step::Targets => Ok(Reply::Targets(targets(alloc, graph, cells)?)),
+        Step::Sources => Ok(Reply::Sources(sources(alloc, graph, cells, rows)?)),
         _ => Ok(Reply::Okay),
-    }
-}
-
-/// The reply to a session's step, which is no lock. Only the lists of names allocate, and a refusal doesn't.
-pub(crate) fn reply(
-    alloc: Global,
-    graph: &Graph,
-    cells: &CompactCells,
-    rows: &PairRows,
-    memo: &mut Memo,
-    s: u8,
-    step: &Step,
-    holds: bool,
-) -> Result<Reply, AllocError>
-    requires fit { IsFit graph.now cells.now rows.now }
-    requires memo { IsMemoOf graph.now.tables cells.now rows.now memo.old }
-    requires numbers { IsStepBelow graph.now.tables (length cells.now) step.now }
-    requires no_lock { (x : commands.Command ℕ) → Means graph.now.tables step.now x
-        → asked_lock x ≡ None }
-    ensures replies { (x : commands.Command ℕ) → Means graph.now.tables step.now x
-        → IfOk result (λ reply. Replies (naming_in graph.now)
-        (records_in graph.now.tables cells.now rows.now) s holds x (reply_of reply)) }
-    ensures below { IfOk result (λ reply. IsReplyBelow (length cells.now) (reply_of reply)) }
-    ensures ok { (x : commands.Command ℕ) → Means graph.now.tables step.now x
-        → lists_names x ≡ false → IsOk result }
-    ensures refused { (x : commands.Command ℕ) → Means graph.now.tables step.now x
-        → IsSome (verdict_of (naming_in graph.now)
-        (records_in graph.now.tables cells.now rows.now) s holds x) → IsOk result }
-    ensures memo { IsMemoOf graph.now.tables cells.now rows.now memo.new }
-{
-    match verdict(graph, cells, s, step, holds) {
-        Some(refusal) => Ok(Reply::Refused(refusal)),
-        None => answer(alloc, graph, cells, rows, memo, step),
     }
 }

@@ -1,4 +1,4 @@
-ghost use Rattle.std.specs.Prelude.{◌≡◌, ◌↔◌, ◌<◌, ℕ, Some, List, IsTrue, IfSome, length};
+ghost use Rattle.std.specs.Prelude.{◌≡◌, ◌<◌, ℕ, List, IsTrue, IfSome, length};
 ghost use Rattle.redodb_model.specs.Command as commands;
 ghost use Rattle.redodb_model.specs.Names.{by_number};
 ghost use Rattle.redodb_model.specs.Step.{effect_of};
@@ -28,12 +28,6 @@ fn name_of(step: &Step) -> Option<u32>
     }
 }
 
-fn is_stamp(file: Option<u32>, stamp: u32) -> bool
-    ensures { IsTrue result ↔ (file ≡ Some stamp) }
-{
-    file == Some(stamp)
-}
-
 /// Whether the step reports of a name what is known of its file.
 fn repeats(cells: &CompactCells, step: &Step) -> bool
     requires { (tables : TablesOf) × IsReady tables (length cells.now) step.now }
@@ -43,7 +37,7 @@ fn repeats(cells: &CompactCells, step: &Step) -> bool
         ≡ records_in tables cells.now rows }
 {
     match step {
-        Step::File(n, stamp) => is_stamp(cells.get(*n).file, *stamp),
+        Step::File(n, stamp) => cells.get(*n).file == Some(*stamp),
         Step::Gone(n) => cells.get(*n).file.is_none(),
         _ => false,
     }

@@ -12,7 +12,6 @@ ghost use Rattle.redodb_replica.specs.Support.Changes.{IsListReady, IsReady};
 ghost use Rattle.redodb_replica.specs.Support.Steps.{step_kind, step_target};
 
 use crate::cells::CompactCells;
-use crate::changes::first_with_file;
 use redodb_commands::{Kind, Refusal};
 use redodb_graph::{Graph, Listed, Step};
 
@@ -54,17 +53,21 @@ fn target_of(step: &Step) -> Option<u32>
     }
 }
 
-/// The refusal of an `ifcreate` for one of its names.
+/// The refusal of an `ifcreate` for the first of its names that has a file.
 fn existing(graph: &Graph, cells: &CompactCells, list: &Listed) -> Option<Refusal>
     requires { IsListReady graph.now.tables (length cells.now) list.now }
     ensures { (rows : List Row) (t : ℕ) (names : List ℕ)
         → AreListed graph.now.tables t names list.now → option_map refusal_of result
         ≡ refusal_of_existing (find (has_file (records_in graph.now.tables cells.now rows)) names) }
 {
-    match first_with_file(graph, cells, graph.listed(list)) {
-        Some(name) => Some(Refusal::Exists(name)),
-        None => None,
+    let pairs = graph.pairs();
+    for &place in graph.listed(list) {
+        let name = pairs[place as usize].1;
+        if cells.get(name).file.is_some() {
+            return Some(Refusal::Exists(name));
+        }
     }
+    None
 }
 
 /// The first refusal for the names after the step's target.

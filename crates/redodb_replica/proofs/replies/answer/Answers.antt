@@ -1,6 +1,7 @@
-use Rattle.std.proofs.Common.{ℕ, sym, subst}
+use Rattle.std.proofs.Common.{ℕ, refl, sym, subst}
 use Rattle.std.specs.Prelude.{IfOk}
 use Rattle.redodb_model.specs.Command.{Command}
+use Rattle.redodb_model.specs.Reply.{Targets}
 use Rattle.redodb_model.specs.Step.{Tells}
 use Rattle.redodb_commands.specs.Meaning.{reply_of}
 use Rattle.redodb_graph.specs.declared.step.Step.{Step}
@@ -10,12 +11,12 @@ use Rattle.redodb_replica.specs.Replies.{naming_in}
 use Rattle.redodb_replica.proofs.Layouts.{laid_out}
 use Rattle.redodb_replica.proofs.replies.answer.Goals as goal
 
-pub targets_reply-requires : goal.targets_reply-requires
-targets_reply-requires c =
+pub targets-requires : goal.targets-requires
+targets-requires c =
     laid_out c.args.graph.now c.args.cells.now c.args.rows.now c.requires.fit
 
-pub sources_reply-requires-clause-laid_out : goal.sources_reply-requires-clause-laid_out
-sources_reply-requires-clause-laid_out c =
+pub sources-requires-clause-laid_out : goal.sources-requires-clause-laid_out
+sources-requires-clause-laid_out c =
     laid_out c.args.graph.now c.args.cells.now c.args.rows.now c.requires.fit
 
 pub returns-in-IfChange-clause-tells : goal.returns-in-IfChange-clause-tells
@@ -36,11 +37,18 @@ returns-in-Ood-clause-tells c = λ x means.
     (records_in g.tables c.args.cells.now rows) y (reply_of reply))) (sym is)
     c.ood_reply.ensures.tells
 
-pub returns-in-Targets-clause-tells : goal.returns-in-Targets-clause-tells
-returns-in-Targets-clause-tells c = λ x means.
+pub returns-in_ok-targets-in-Targets-clause-tells
+    : goal.returns-in_ok-targets-in-Targets-clause-tells
+returns-in_ok-targets-in-Targets-clause-tells c = λ x means.
     let g = c.args.graph.now in
     let rows = c.args.rows.now in
+    let names = c.in_ok-targets-in-Targets in
     let is = subst (λ (step : Step). Means g.tables step x) c.in-Targets.is means in
-    subst (λ (y : Command ℕ). IfOk c.targets_reply.result (λ reply. Tells (naming_in g)
-    (records_in g.tables c.args.cells.now rows) y (reply_of reply))) (sym is)
-    (c.targets_reply.ensures.tells rows)
+    subst (λ (y : Command ℕ). Tells (naming_in g) (records_in g.tables c.args.cells.now rows) y
+    (Targets names.field-0.items)) (sym is)
+    (names.field-0.items, (names.ensures rows).listed, refl)
+
+pub returns-in_ok-targets-in-Targets-clause-below
+    : goal.returns-in_ok-targets-in-Targets-clause-below
+returns-in_ok-targets-in-Targets-clause-below c =
+    (c.in_ok-targets-in-Targets.ensures c.args.rows.now).below
