@@ -1,8 +1,5 @@
 -- Marks that stand for the same one.
-use Rattle.std.proofs.Common.{◌≡◌, ◌≢◌, ◌∙◌, ℕ, ◌<◌, true, not, nat_eq, List, [], Option, Some, None, length, refl, sym, ap}
-use Rattle.std.specs.Option.{option_eq}
-use Rattle.std.specs.Prelude.{IfSome, option_map}
-use Rattle.std.proofs.lemmas.Bool.{eq-eqb}
+use Rattle.std.proofs.Common.{◌≡◌, ◌∙◌, ℕ, ◌<◌, List, [], Some, length, refl, sym, ap}
 use Rattle.std.proofs.lemmas.Option.{slice_get-get_or}
 use Rattle.redodb_model.specs.Names.{Text}
 use Rattle.redodb_graph.specs.Graphs.{IsOnce}
@@ -27,17 +24,3 @@ mark_once stamps digests (Digest i) (Digest j) s d h k e =
     ap Digest (entry_once digests i j d h k cc)
 mark_once stamps digests (Builds i) (Builds j) s d h k e = ap Builds cc
 mark_once stamps digests one other s d h k e = cc
-
-module _ (table : List Text) (once : IsOnce table) where
-  abbrev HasIts : Option ℕ → Type 0
-  HasIts o = IfSome o (λ i. i < length table)
-
-  pub others_differ : (a b : Option ℕ) → HasIts a → HasIts b
-      → not (option_eq nat_eq a b) ≡ true
-      → option_map (entry_of table) a ≢ option_map (entry_of table) b
-  others_differ None None a_in b_in other same = cc
-  others_differ None (Some j) a_in b_in other same = cc
-  others_differ (Some i) None a_in b_in other same = cc
-  others_differ (Some i) (Some j) a_in b_in other same =
-      let is : i ≡ j = entry_once table i j once a_in b_in cc in
-      cc (eq-eqb i j is)

@@ -2,8 +2,7 @@ ghost use Rattle.std.specs.Prelude.{length};
 ghost use Rattle.redodb_replica.specs.Replicas.{records_in};
 
 use crate::cells::CompactCells;
-use crate::needs::depends_on_marked;
-use crate::reason::has_reason;
+use crate::reason::is_due;
 use crate::rows::PairRows;
 use crate::targets::enter_holders;
 use redodb_graph::Graph;
@@ -51,7 +50,6 @@ impl<'a> Dependencies for Database<'a> {
 
     #[inline]
     fn is_due(&self, t: u32, marks: &NameSet, _hints: &mut ()) -> bool {
-        has_reason(self.graph, self.cells, self.rows, t)
-            || depends_on_marked(self.graph, self.cells, self.rows, marks, t)
+        is_due(self.graph, self.cells, self.rows, marks, t)
     }
 }

@@ -9,7 +9,6 @@ mod laws;
 mod lists;
 mod mark;
 mod memo;
-mod needs;
 mod reason;
 mod replica;
 mod replies;

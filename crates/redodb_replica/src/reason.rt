@@ -1,22 +1,26 @@
-//! The reasons of its own by which a target has to be built again.
+//! Whether a target has to be built again: it has a reason of its own, or depends on a marked name.
 
 ghost use Rattle.std.specs.Prelude.{◌≡◌, ◌≢◌, ◌↔◌, ◌<◌, IsTrue, IsSome, Some, length};
-ghost use Rattle.redodb_model.specs.OutOfDate.{HasReason};
+ghost use Rattle.redodb_memo.specs.NameSet.{IsMarked, size_of};
+ghost use Rattle.redodb_memo.specs.Support.Regions.{IsDue};
 ghost use Rattle.redodb_graph.specs.Graphs.{IsOnce};
 ghost use Rattle.redodb_graph.specs.Steps.{TablesOf};
 ghost use Rattle.redodb_replica.specs.declared.mark.Mark.{Mark};
 ghost use Rattle.redodb_replica.specs.CompactCells.{HasEntries};
+ghost use Rattle.redodb_replica.specs.PairRows.{change_of};
 ghost use Rattle.redodb_replica.specs.Replicas.{records_in};
 ghost use Rattle.redodb_replica.specs.Support.Entries.{HasMark};
 ghost use Rattle.redodb_replica.specs.Support.Fits.{IsFit};
-ghost use Rattle.redodb_replica.specs.Support.News.{IsNews, HasNews};
+ghost use Rattle.redodb_replica.specs.Support.News.{IsNews, HasDueRow};
 
 use crate::cell::CompactCell;
 use crate::cells::CompactCells;
 use crate::mark::Mark;
 use crate::rows::{PairRows, Row};
 use crate::state::CompactState;
+use crate::targets::has_change;
 use redodb_graph::Graph;
+use redodb_memo::NameSet;
 
 /// Whether there is a change row, with another mark than this one.
 fn is_other(change: Option<Mark>, now: Mark) -> bool
@@ -44,36 +48,57 @@ fn is_news(row: &Row, cell: &CompactCell) -> bool
     has_appeared(row, cell) || is_other(row.change(), cell.mark())
 }
 
-/// Whether the rows of the target on some name are such a reason.
-fn has_news(graph: &Graph, cells: &CompactCells, rows: &PairRows, t: u32) -> bool
+/// Whether there is a change row, and its name is marked.
+fn needs_marked(row: &Row, marks: &NameSet, n: u32) -> bool
+    requires { n < size_of marks.now }
+    ensures { IsTrue result ↔ (IsSome (change_of row.now) × IsMarked marks.now n) }
+{
+    marks.contains(n) && has_change(row)
+}
+
+/// Whether the rows of the target on some name are such a reason, or it has a change row on a marked name.
+fn has_due_row(
+    graph: &Graph,
+    cells: &CompactCells,
+    rows: &PairRows,
+    marks: &NameSet,
+    t: u32,
+) -> bool
     requires target { t < length cells.now }
     requires fit { IsFit graph.now cells.now rows.now }
-    ensures { IsTrue result ↔ HasNews graph.now.tables cells.now rows.now t }
+    requires sized { size_of marks.now ≡ length cells.now }
+    ensures { IsTrue result ↔ HasDueRow graph.now.tables cells.now rows.now marks.now t }
 {
     let pairs = graph.pairs();
     for place in graph.start(t)..graph.start(t + 1) {
         let row = rows.row(place as u32);
-        let cell = cells.get(pairs[place].1);
-        if is_news(&row, &cell) {
+        let name = pairs[place].1;
+        if is_news(&row, &cells.get(name)) || needs_marked(&row, marks, name) {
             return true;
         }
     }
     false
 }
 
-/// Whether it is a target with a reason of its own.
-pub(crate) fn has_reason(graph: &Graph, cells: &CompactCells, rows: &PairRows, t: u32) -> bool
+/// Whether it is a target that has a reason of its own, or depends on a marked name.
+pub(crate) fn is_due(
+    graph: &Graph,
+    cells: &CompactCells,
+    rows: &PairRows,
+    marks: &NameSet,
+    t: u32,
+) -> bool
     requires target { t < length cells.now }
     requires fit { IsFit graph.now cells.now rows.now }
-    ensures { IsTrue result ↔ HasReason (records_in graph.now.tables cells.now rows.now) t }
+    requires sized { size_of marks.now ≡ length cells.now }
+    ensures { IsTrue result ↔ IsDue (records_in graph.now.tables cells.now rows.now) marks.now t }
 {
     let cell = cells.get(t);
     match cell.state {
         CompactState::Idle => false,
-        CompactState::Building(_) => true,
+        CompactState::Building(_) | CompactState::Failed => true,
         CompactState::Built => cell.file != cell.done
             || cell.always
-            || has_news(graph, cells, rows, t),
-        CompactState::Failed => true,
+            || has_due_row(graph, cells, rows, marks, t),
     }
 }

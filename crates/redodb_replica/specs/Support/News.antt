@@ -2,6 +2,7 @@
 use Rattle.std.specs.Prelude.{◌≡◌, ◌≢◌, ◌⊎◌, ℕ, List, Some, IsSome, IsTrue, option_map}
 use Rattle.redodb_model.specs.State as states
 use Rattle.redodb_model.specs.State.{mark_in}
+use Rattle.redodb_memo.specs.NameSet.{Marked, IsMarked}
 use Rattle.redodb_graph.specs.Steps.{TablesOf}
 use Rattle.redodb_replica.specs.declared.rows.Row.{Row}
 use Rattle.redodb_replica.specs.declared.cell.CompactCell.{CompactCell}
@@ -23,7 +24,12 @@ HasChanged tables row cell = (mark : states.Mark)
 abbrev pub IsNews : TablesOf → Row → CompactCell → Type 0
 IsNews tables row cell = HasAppeared tables row cell ⊎ HasChanged tables row cell
 
--- the rows of t on some name are such a reason
-abbrev pub HasNews : TablesOf → List CompactCell → List Row → ℕ → Type 0
-HasNews tables cells rows t = (n : ℕ)
-    × IsNews tables (row_at rows (pair_place tables.pairs.items t n)) (cell_at cells n)
+-- they are, or there is a change row and the name is marked
+abbrev pub IsDueRow : TablesOf → List CompactCell → Marked → Row → ℕ → Type 0
+IsDueRow tables cells marks row n =
+    IsNews tables row (cell_at cells n) ⊎ (IsSome (change_of row) × IsMarked marks n)
+
+-- this is so of the rows of t on some name
+abbrev pub HasDueRow : TablesOf → List CompactCell → List Row → Marked → ℕ → Type 0
+HasDueRow tables cells rows marks t =
+    (n : ℕ) × IsDueRow tables cells marks (row_at rows (pair_place tables.pairs.items t n)) n
