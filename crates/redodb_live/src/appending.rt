@@ -39,7 +39,7 @@ pub(crate) fn answered(
     Ok(Line {
         session,
         command,
-        reply: ordered(names, copy),
+        reply: ordered(names, copy, &[], &[]),
     })
 }
 

@@ -1,3 +1,8 @@
+ghost use Rattle.std.specs.Prelude.{◌≡◌};
+ghost use Rattle.redodb_live.specs.Support.Appended.{unread};
+ghost use Rattle.redodb_live.specs.declared.fault.Unanswered.TheVariants.{Memory};
+ghost use Rattle.redodb_live.specs.declared.fault.AnswerFault.TheVariants.{Unanswered};
+
 use redodb_text::{LineFault, ReadFault};
 use std::alloc::AllocError;
 use thiserror::Error;
@@ -26,9 +31,6 @@ pub enum AnswerFault {
 }
 
 impl From<AllocError> for Unanswered {
-    ghost use Rattle.std.specs.Prelude.{◌≡◌};
-    ghost use Rattle.redodb_live.specs.declared.fault.Unanswered.TheVariants.{Memory};
-
     ghost from_gives = { λ _ why. why ≡ Memory };
 
     fn from(_: AllocError) -> Unanswered {
@@ -37,9 +39,6 @@ impl From<AllocError> for Unanswered {
 }
 
 impl From<ReadFault> for Unanswered {
-    ghost use Rattle.std.specs.Prelude.{◌≡◌};
-    ghost use Rattle.redodb_live.specs.Support.Appended.{unread};
-
     ghost from_gives = { λ fault why. why ≡ unread fault };
 
     fn from(fault: ReadFault) -> Unanswered {
@@ -51,10 +50,6 @@ impl From<ReadFault> for Unanswered {
 }
 
 impl From<AllocError> for AnswerFault {
-    ghost use Rattle.std.specs.Prelude.{◌≡◌};
-    ghost use Rattle.redodb_live.specs.declared.fault.Unanswered.TheVariants.{Memory};
-    ghost use Rattle.redodb_live.specs.declared.fault.AnswerFault.TheVariants.{Unanswered};
-
     ghost from_gives = { λ _ why. why ≡ Unanswered Memory };
 
     fn from(_: AllocError) -> AnswerFault {
@@ -63,9 +58,6 @@ impl From<AllocError> for AnswerFault {
 }
 
 impl From<Unanswered> for AnswerFault {
-    ghost use Rattle.std.specs.Prelude.{◌≡◌};
-    ghost use Rattle.redodb_live.specs.declared.fault.AnswerFault.TheVariants.{Unanswered};
-
     ghost from_gives = { λ unanswered why. why ≡ Unanswered unanswered };
 
     fn from(unanswered: Unanswered) -> AnswerFault {

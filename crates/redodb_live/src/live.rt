@@ -1,14 +1,12 @@
 ghost use Rattle.std.specs.Prelude.{◌≡◌, ◌↔◌, ◌≤◌, ◌<◌, ◌+◌, ◌^◌, [], ◌∷◌, None, length, IfOk, IfErr, OnOk, OnErr, true};
-ghost use Rattle.redodb_model.specs.Names.{by_number};
 ghost use Rattle.redodb_names.specs.Support.Names.{Extends, AreNames};
 ghost use Rattle.redodb_model.specs.State.{empty};
 ghost use Rattle.redodb_model.specs.Renaming.{IsBelow};
-ghost use Rattle.redodb_model.specs.Step.{Answers};
-ghost use Rattle.redodb_commands.specs.Meaning.{command_of, reply_of};
+ghost use Rattle.redodb_commands.specs.Meaning.{command_of};
 ghost use Rattle.redodb_commands.specs.Support.Meaning.{command_at};
 ghost use Rattle.redodb_text.specs.Grammar.{IsCommandLine, AddsNames};
 ghost use Rattle.redodb_text.specs.Questions.{line_fault};
-ghost use Rattle.redodb_database.specs.Tables.{has_room_for, state_of, tables_count};
+ghost use Rattle.redodb_database.specs.Tables.{tables_count};
 
 use crate::appending::{answered, append_within, line_text, text_if};
 use crate::fault::{AnswerFault, Unanswered};
@@ -155,7 +153,8 @@ impl Live {
             return Err(AnswerFault::Unanswered(Unanswered::Worn));
         }
         let count = self.names.len();
-        match self.read_and_obey(alloc, session, text, most, output, logged) {
+        let command = self.read(alloc, text)?;
+        match self.obey(alloc, session, command, most, output, logged) {
             Ok(()) => Ok(()),
             Err(why) => {
                 self.names.keep_first(count);
@@ -203,33 +202,6 @@ impl Live {
         }
     }
 
-    /// Answers a session's command. On an error, names of it may stay.
-    fn read_and_obey(
-        &mut self,
-        alloc: Global,
-        session: u16,
-        text: &[u8],
-        most: usize,
-        output: &mut Vec<u8>,
-        logged: &mut Vec<u8>,
-    ) -> Result<(), AnswerFault>
-        requires names { AreNames self.old.names }
-        requires calls { ¬ (IsWorn self.old) }
-        ensures answered { OnOk result (AnswersText self.old self.new session text.now
-            output.old.items output.new.items logged.old.items logged.new.items) }
-        ensures fits { OnOk result
-            (length output.new.items ≤ length output.old.items + most) }
-        ensures cause { IfErr result (IsAnswerFaultFor self.old session text.now most) }
-        ensures kept { Extends self.old.names self.new.names }
-        ensures known { OnErr result (IsSameDatabase self.old self.new) }
-        ensures unwritten { OnErr result
-            (AppendsNothing output.old.items output.new.items logged.old.items logged.new.items) }
-    {
-        let command = self.read(alloc, text)?;
-        self.obey(alloc, session, command, most, output, logged)?;
-        Ok(())
-    }
-
     /// Answers a session's command, whose names are known.
     fn obey(
         &mut self,
@@ -254,7 +226,9 @@ impl Live {
         ensures unwritten { OnErr result
             (AppendsNothing output.old.items output.new.items logged.old.items logged.new.items) }
     {
-        let reply = self.reply_in_room(alloc, session, &command)?;
+        self.grow()?;
+        self.redo.reserve(&command)?;
+        let reply = self.redo.reply(alloc, session, &command)?;
         let line = answered(alloc, session, command, &reply, &self.names)?;
         self.carry_out(alloc, &line, &reply, most, output, logged)
     }
@@ -295,29 +269,6 @@ impl Live {
         ensures { self.new ≡ self.old }
     {
         mem::replace(&mut self.line, Vec::new(alloc))
-    }
-
-    /// The reply to the command, after memory was reserved for the names and for its change.
-    fn reply_in_room(
-        &mut self,
-        alloc: Global,
-        session: u16,
-        command: &Command,
-    ) -> Result<Reply, AllocError>
-        requires below { IsBelow (length self.old.names) (command_of command.now) }
-        requires names { AreNames self.old.names }
-        requires calls { HasCallsLeft self.old }
-        ensures names { self.new.names ≡ self.old.names }
-        ensures known { IsSameDatabase self.old self.new }
-        ensures count { OnOk result (length self.new.names ≤ tables_count self.new.tables) }
-        ensures room { OnOk result
-            (has_room_for self.new.tables (command_of command.now) ≡ true) }
-        ensures answers { IfOk result (λ reply. Answers by_number (state_of self.new.tables)
-            session (command_of command.now) (reply_of reply)) }
-    {
-        self.grow()?;
-        self.redo.reserve(command)?;
-        self.redo.reply(alloc, session, command)
     }
 
     /// A number for each name, and some more.

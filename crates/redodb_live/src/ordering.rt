@@ -53,62 +53,31 @@ pub(crate) fn ascending(alloc: Global, numbers: &[u32]) -> Result<Vec<u32>, Allo
     Ok(copy)
 }
 
-/// Puts the numbers into the order of the guess, if they are those of the guess in ascending order.
-fn rearrange(numbers: &mut Vec<u32>, guess: &[u32], ascending: &[u32])
-    requires { IsPermutation guess.now ascending.now }
-    ensures { IsPermutation numbers.old.items numbers.new.items }
-{
-    if ascending == numbers.as_slice() {
-        numbers.copy_from_slice(guess);
-    }
-}
-
 /// Sorts the numbers by their texts. This is fast if the guess is right.
 fn sort_guessed(names: &Names, numbers: &mut Vec<u32>, guess: &[u32], ascending: &[u32])
     requires { IsPermutation guess.now ascending.now }
     ensures same { IsPermutation numbers.old.items numbers.new.items }
     ensures sorted { IsSorted (by_text names.now).order numbers.new.items }
 {
-    rearrange(numbers, guess, ascending);
+    if ascending == numbers.as_slice() {
+        numbers.copy_from_slice(guess);
+    }
     sort(names, numbers);
 }
 
 /// The reply with its list of names, if it has one, in the order of their texts. Allocates nothing.
 /// This is fast if the guess is right: then texts are compared only to see that its list is sorted.
 /// Callers pass the guess in `ascending` order too.
-pub(crate) fn ordered_guessed(
-    names: &Names,
-    reply: Reply,
-    guess: &[u32],
-    ascending: &[u32],
-) -> Reply
+pub(crate) fn ordered(names: &Names, mut reply: Reply, guess: &[u32], ascending: &[u32]) -> Reply
     requires { IsPermutation guess.now ascending.now }
     ensures { IsSortedReply (by_text names.now).order (reply_of reply) (reply_of result) }
 {
-    match reply {
-        Reply::Stale(mut list) => {
-            sort_guessed(names, &mut list, guess, ascending);
-            Reply::Stale(list)
-        }
-        Reply::Ood(mut list) => {
-            sort_guessed(names, &mut list, guess, ascending);
-            Reply::Ood(list)
-        }
-        Reply::Targets(mut list) => {
-            sort_guessed(names, &mut list, guess, ascending);
-            Reply::Targets(list)
-        }
-        Reply::Sources(mut list) => {
-            sort_guessed(names, &mut list, guess, ascending);
-            Reply::Sources(list)
-        }
-        other => other,
+    match &mut reply {
+        Reply::Stale(list) => sort_guessed(names, list, guess, ascending),
+        Reply::Ood(list) => sort_guessed(names, list, guess, ascending),
+        Reply::Targets(list) => sort_guessed(names, list, guess, ascending),
+        Reply::Sources(list) => sort_guessed(names, list, guess, ascending),
+        _ => {}
     }
-}
-
-/// The same without a guess.
-pub(crate) fn ordered(names: &Names, reply: Reply) -> Reply
-    ensures { IsSortedReply (by_text names.now).order (reply_of reply) (reply_of result) }
-{
-    ordered_guessed(names, reply, &[], &[])
+    reply
 }

@@ -44,26 +44,7 @@ impl Live {
             × (output.new.items ≡ output.old.items ++ line)) }
         ensures unwritten { OnErr result (output.new.items ≡ output.old.items) }
     {
-        let old_line = self.take_line(alloc);
-        let line = self.inquiry_line(alloc, session, inquiry, name, old_line)?;
-        output.extend_from_slice(&line)?;
-        self.line = line;
-        Ok(())
-    }
-
-    /// The line that answers the question, in the memory of an older one.
-    fn inquiry_line(
-        &mut self,
-        alloc: Global,
-        session: u16,
-        inquiry: Inquiry,
-        name: &[u8],
-        mut line: Vec<u8>,
-    ) -> Result<Vec<u8>, AllocError>
-        ensures kept { self.new ≡ self.old }
-        ensures answers { IfOk result (λ line.
-            AnswersInForm (state_in self.old) session inquiry name.now line.items) }
-    {
+        let mut line = self.take_line(alloc);
         line.clear();
         put_number(&mut line, session as usize + 1)?;
         put_word(&mut line, inquiry_word(inquiry))?;
@@ -71,7 +52,9 @@ impl Live {
         put_word(&mut line, b"=>")?;
         self.put_answer(alloc, inquiry, name, &mut line)?;
         line.push(b'\n')?;
-        Ok(line)
+        output.extend_from_slice(&line)?;
+        self.line = line;
+        Ok(())
     }
 
     /// The number of a name of which something may be known.

@@ -1,7 +1,6 @@
 //! What is known of all names, in one line. Looking changes nothing.
-ghost use Rattle.std.specs.Prelude.{◌≡◌, ◌<◌, ◌≤◌, ◌+◌, ◌++◌, length, IfOk, IfErr, OnOk, OnErr};
+ghost use Rattle.std.specs.Prelude.{◌≡◌, ◌≤◌, ◌+◌, ◌++◌, length, IfErr, OnOk, OnErr};
 ghost use Rattle.std.specs.List.{flat_map};
-ghost use Rattle.redodb_model.specs.Names.{text_at};
 ghost use Rattle.redodb_text.specs.Texts.{after_space};
 ghost use Rattle.redodb_live.specs.Answers.{known_words, names_line};
 ghost use Rattle.redodb_live.specs.Support.LiveState.{state_in};
@@ -32,7 +31,13 @@ impl Live {
             (IsUnwrittenFor (names_line session self.now.names (state_in self.now)) most) }
         ensures unwritten { OnErr result (output.new.items ≡ output.old.items) }
     {
-        let line = self.line_of_names(alloc, session)?;
+        let mut line = Vec::new(alloc);
+        put_number(&mut line, session as usize + 1)?;
+        put_word(&mut line, b"names")?;
+        put_word(&mut line, b"=>")?;
+        put_count(&mut line, self.names.len() as usize)?;
+        self.put_all(&mut line)?;
+        line.extend_from_slice(b"\n")?;
         let size = line.len();
         if size > most {
             return Err(AnswerFault::TooLong(size));
@@ -41,39 +46,14 @@ impl Live {
         Ok(())
     }
 
-    /// The line.
-    fn line_of_names(&self, alloc: Global, session: u16) -> Result<Vec<u8>, AllocError>
-        ensures { IfOk result
-            (λ line. line.items ≡ names_line session self.now.names (state_in self.now)) }
-    {
-        let mut line = Vec::new(alloc);
-        put_number(&mut line, session as usize + 1)?;
-        put_word(&mut line, b"names")?;
-        put_word(&mut line, b"=>")?;
-        put_count(&mut line, self.names.len() as usize)?;
-        self.put_all(&mut line)?;
-        line.push(b'\n')?;
-        Ok(line)
-    }
-
     /// Writes what is known of each name, in the order of their numbers.
     fn put_all(&self, line: &mut Vec<u8>) -> Result<(), AllocError>
         ensures { OnOk result (line.new.items ≡ line.old.items
             ++ flat_map after_space (flat_map (known_words (state_in self.now)) self.now.names)) }
     {
         for n in 0..self.names.len() {
-            self.put_known(n, line)?;
+            put_cell(line, self.names.text(n), &self.cell(n))?;
         }
         Ok(())
-    }
-
-    /// Writes what is known of the name with this number.
-    fn put_known(&self, n: u32, line: &mut Vec<u8>) -> Result<(), AllocError>
-        requires { n < length self.now.names }
-        ensures { OnOk result (line.new.items ≡ line.old.items
-            ++ flat_map after_space (known_words (state_in self.now) (text_at self.now.names n))) }
-    {
-        let cell = self.cell(n);
-        put_cell(line, self.names.text(n), &cell)
     }
 }

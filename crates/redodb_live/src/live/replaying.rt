@@ -11,7 +11,7 @@ ghost use Rattle.redodb_history.specs.Support.HistoryFaults.{IsLineCause};
 ghost use Rattle.redodb_live.specs.Support.LiveState.{state_in, calls_in, HasCallsLeft, IsAsKnown};
 
 use crate::live::Live;
-use crate::ordering::{ascending, list_of, ordered_guessed};
+use crate::ordering::{ascending, list_of, ordered};
 use redodb_commands::{Command, Line, Reply};
 use redodb_history::{HistoryFault, read_line};
 use redodb_names::Names;
@@ -88,6 +88,6 @@ impl Live {
         let guessed = list_of(guess);
         let sorted = ascending(alloc, guessed)?;
         let reply = self.redo.call(alloc, session, command)?;
-        Ok(ordered_guessed(&self.names, reply, guessed, &sorted))
+        Ok(ordered(&self.names, reply, guessed, &sorted))
     }
 }

@@ -12,8 +12,8 @@ invariant_of-self-2 c =
     c.self-2.inside.redo
     c.call.new.self c.self-2.view_is c.grow.ensures.names c.grow.ensures.known are
     c.self-2.invariant.state c.args.session (command_of c.args.command.now) c.requires.below
-    (reply_of c.in_ok-reply.reply) (reply_of c.ordered_guessed.result) c.in_ok-reply.ensures.answers
-    c.ordered_guessed.ensures c.in_ok-reply.ensures.after
+    (reply_of c.in_ok-reply.reply) (reply_of c.ordered.result) c.in_ok-reply.ensures.answers
+    c.ordered.ensures c.in_ok-reply.ensures.after
     c.requires.calls c.in_ok-reply.ensures.calls in
     record {
       few = c.self-2.invariant.few;
@@ -27,8 +27,8 @@ returns-clause-answers c =
     called_answers c.args.self.now c.grow.new.self c.self-2.inside.names c.self-2.inside.redo
     c.call.new.self c.self-2.view_is c.grow.ensures.names c.grow.ensures.known are
     c.self-2.invariant.state c.args.session (command_of c.args.command.now) c.requires.below
-    (reply_of c.in_ok-reply.reply) (reply_of c.ordered_guessed.result) c.in_ok-reply.ensures.answers
-    c.ordered_guessed.ensures c.in_ok-reply.ensures.after
+    (reply_of c.in_ok-reply.reply) (reply_of c.ordered.result) c.in_ok-reply.ensures.answers
+    c.ordered.ensures c.in_ok-reply.ensures.after
 
 pub returns-clause-after : goal.returns-clause-after
 returns-clause-after c =
@@ -36,8 +36,8 @@ returns-clause-after c =
     called_after c.args.self.now c.grow.new.self c.self-2.inside.names c.self-2.inside.redo
     c.call.new.self c.self-2.view_is c.grow.ensures.names c.grow.ensures.known are
     c.self-2.invariant.state c.args.session (command_of c.args.command.now) c.requires.below
-    (reply_of c.in_ok-reply.reply) (reply_of c.ordered_guessed.result) c.in_ok-reply.ensures.answers
-    c.ordered_guessed.ensures c.in_ok-reply.ensures.after
+    (reply_of c.in_ok-reply.reply) (reply_of c.ordered.result) c.in_ok-reply.ensures.answers
+    c.ordered.ensures c.in_ok-reply.ensures.after
 
 pub returns-clause-below : goal.returns-clause-below
 returns-clause-below c =
@@ -45,5 +45,5 @@ returns-clause-below c =
     called_below c.args.self.now c.grow.new.self c.self-2.inside.names c.self-2.inside.redo
     c.call.new.self c.self-2.view_is c.grow.ensures.names c.grow.ensures.known are
     c.self-2.invariant.state c.args.session (command_of c.args.command.now) c.requires.below
-    (reply_of c.in_ok-reply.reply) (reply_of c.ordered_guessed.result) c.in_ok-reply.ensures.answers
-    c.ordered_guessed.ensures c.in_ok-reply.ensures.after
+    (reply_of c.in_ok-reply.reply) (reply_of c.ordered.result) c.in_ok-reply.ensures.answers
+    c.ordered.ensures c.in_ok-reply.ensures.after
