@@ -6,7 +6,7 @@ ghost use Rattle.redodb_text.specs.Grammar.{IsCommandLine};
 ghost use Rattle.redodb_live.specs.Support.Appended.{IsWorn};
 ghost use Rattle.redodb_history.specs.Support.HistoryFaults.{IsCutAt};
 ghost use Rattle.redodb_log.specs.Logs.{dump_header, Past, HasPast, IsLogOf, IsTornHeader};
-ghost use Rattle.redodb_log.specs.Restores.{head_lines, IsRestored, IsRestoredTo, IsRestoreCause, IsOfRoom, IsWithin};
+ghost use Rattle.redodb_log.specs.Restores.{IsRestored, IsRestoredTo, IsRestoreCause, IsOfRoom, IsWithin};
 ghost use Rattle.redodb_log.specs.Support.Steps.{AsksFor, BeginsAfter, DoesNext, NothingFollows};
 
 use redodb_dump::{LoadFault, Loaded, load};
@@ -80,14 +80,6 @@ fn asked(text: &[u8]) -> Option<(u16, &[u8])>
     Some((session, command))
 }
 
-/// How much of a log was done again.
-#[derive(Clone, Copy)]
-struct Extent {
-    lines: usize,
-    /// Those of the lines, and of the header.
-    bytes: usize,
-}
-
 /// A database that does a log's lines, and buffers for one of them.
 #[derive(Drop)]
 struct Again {
@@ -124,63 +116,6 @@ impl Again {
             Err(Unanswered::Memory) => Err(RestoreFault::Memory),
             Err(Unanswered::Worn) => Err(RestoreFault::Worn),
         }
-    }
-
-    /// Does again all lines of a log, the first of which has this number.
-    fn redo_lines(
-        &mut self,
-        alloc: Global,
-        first: usize,
-        log: &[u8],
-        lines: &[u8],
-    ) -> Result<Extent, RestoreFault>
-        requires within { length lines.now ≤ length log.now }
-        requires first { first ≤ length log.now + 1 }
-        ensures within { IfOk result (λ extent. extent.bytes ≤ length log.now) }
-        ensures cut { IfErr result (IsWithin (length log.now)) }
-        ensures restored { IfOk result (λ extent. (past : Past)
-            → BeginsAfter past log.now lines.now self.old.live
-            → (done : List (Line Text)) × (torn : Text)
-            × IsLogOf past log.now done torn × IsRestoredTo past done
-            record {
-              live = self.new.live;
-              lines = extent.lines;
-              head = length log.now - length lines.now;
-              bytes = extent.bytes;
-            }) }
-        ensures only { (past : Past) (done : List (Line Text)) (torn : Text)
-            → BeginsAfter past log.now lines.now self.old.live
-            → IsLogOf past log.now done torn → IfErr result IsOfRoom }
-        ensures same { (past : Past) (done : List (Line Text)) (torn : Text)
-            → BeginsAfter past log.now lines.now self.old.live
-            → IsLogOf past log.now done torn → IfOk result (λ extent. IsRestoredTo past done
-            record {
-              live = self.new.live;
-              lines = extent.lines;
-              head = length log.now - length lines.now;
-              bytes = extent.bytes;
-            }) }
-        ensures cause { IfErr result (λ fault. (past : Past)
-            → BeginsAfter past log.now lines.now self.old.live
-            → first ≡ head_lines past + 1 → IsRestoreCause past log.now fault) }
-    {
-        let mut left = lines;
-        let mut count = 0;
-        'lines: while let Some((text, _)) = cut_at(left, b'\n') {
-            let Some(rest) = self.redo(alloc, text, left)? else {
-                return Err(RestoreFault::Differs {
-                    line: first + count,
-                    lines: count,
-                    bytes: log.len() - left.len(),
-                });
-            };
-            left = rest;
-            count += 1;
-        }
-        Ok(Extent {
-            lines: count,
-            bytes: log.len() - left.len(),
-        })
     }
 }
 
@@ -221,12 +156,24 @@ fn restore_lines(
         output: Vec::new(alloc),
         logged: Vec::new(alloc),
     };
-    let extent = again.redo_lines(alloc, first, log, lines)?;
+    let mut left = lines;
+    let mut count = 0;
+    'lines: while let Some((text, _)) = cut_at(left, b'\n') {
+        let Some(rest) = again.redo(alloc, text, left)? else {
+            return Err(RestoreFault::Differs {
+                line: first + count,
+                lines: count,
+                bytes: log.len() - left.len(),
+            });
+        };
+        left = rest;
+        count += 1;
+    }
     Ok(Restored {
         live: again.live,
-        lines: extent.lines,
+        lines: count,
         head,
-        bytes: extent.bytes,
+        bytes: log.len() - left.len(),
     })
 }
 
