@@ -2,7 +2,7 @@
 ghost use Rattle.std.specs.Prelude.{◌≡◌, ◌++◌, OnOk};
 ghost use Rattle.std.specs.List.{flat_map};
 ghost use Rattle.redodb_text.specs.Texts.{after_space};
-ghost use Rattle.redodb_dump.specs.Dumps.{build_words, cell_words, is_plain};
+ghost use Rattle.redodb_dump.specs.Dumps.{cell_words, is_plain};
 
 use crate::words::put_done;
 use redodb_history::put_count;
@@ -23,24 +23,6 @@ fn is_plain(cell: &Cell, grants: u32, holder: Option<u16>) -> bool
         && holder.is_none()
 }
 
-/// Writes what is known but the file.
-fn put_build(
-    out: &mut Vec<u8>,
-    cell: &Cell,
-    grants: u32,
-    holder: Option<u16>,
-) -> Result<(), AllocError>
-    ensures { OnOk result (out.new.items
-        ≡ out.old.items ++ flat_map after_space (build_words cell.now grants holder)) }
-{
-    put_word(out, stage_word(cell.state()))?;
-    put_count(out, cell.builds() as usize)?;
-    put_done(out, cell.file(), cell.last_done())?;
-    put_digest_or_none(out, cell.digest_ref())?;
-    put_count(out, grants as usize)?;
-    put_holder(out, holder)
-}
-
 /// Writes the file, and what else is known.
 pub(crate) fn put_cell(
     out: &mut Vec<u8>,
@@ -55,5 +37,10 @@ pub(crate) fn put_cell(
     if is_plain(cell, grants, holder) {
         return Ok(());
     }
-    put_build(out, cell, grants, holder)
+    put_word(out, stage_word(cell.state()))?;
+    put_count(out, cell.builds() as usize)?;
+    put_done(out, cell.file(), cell.last_done())?;
+    put_digest_or_none(out, cell.digest_ref())?;
+    put_count(out, grants as usize)?;
+    put_holder(out, holder)
 }

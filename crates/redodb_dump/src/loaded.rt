@@ -1,7 +1,6 @@
 //! The database of a dump.
-ghost use Rattle.std.specs.Prelude.{◌≡◌, ℕ, ◌<◌, ◌≤◌, ◌^◌, ◌++◌, [], ◌∷◌, List, Some, codes, decimal, length, take, IfErr, IfOk, IfSome, IsSomeAnd};
+ghost use Rattle.std.specs.Prelude.{◌≡◌, ℕ, ◌<◌, ◌≤◌, ◌^◌, ◌++◌, [], ◌∷◌, List, Some, decimal, length, take, IfErr, IfOk, IfSome, IsSomeAnd};
 ghost use Rattle.redodb_model.specs.Names.{Text};
-ghost use Rattle.redodb_text.specs.Texts.{spaced};
 ghost use Rattle.redodb_live.specs.Support.LiveState.{calls_in, state_in};
 ghost use Rattle.redodb_dump.specs.Dumps.{HasCountsUpTo, IsLoadFault, IsStateOver, dump_of, state_line};
 
@@ -19,13 +18,6 @@ pub struct Loaded {
     pub live: Live,
     /// How many bytes the dump has.
     pub bytes: usize,
-}
-
-/// What the first line says of the others.
-#[derive(Clone, Copy)]
-struct Counts {
-    names: u32,
-    bytes: usize,
 }
 
 /// A text that may begin with a dump.
@@ -53,20 +45,6 @@ fn size_of(word: &[u8]) -> Option<usize>
     Some(size)
 }
 
-/// What a first line says.
-fn counts_of(line: &[u8]) -> Option<Counts>
-    ensures { (names bytes : ℕ) (sum : Text) → names < 2 ^ 32 → bytes < 2 ^ 64
-        → line.now ≡ spaced (codes "state") (decimal names ∷ decimal bytes ∷ sum ∷ [])
-        → IsSomeAnd result (λ counts. (counts.names ≡ names) × (counts.bytes ≡ bytes)) }
-{
-    let (_, rest) = cut_at_space(line);
-    let (names, rest) = cut_at_space(rest);
-    let (bytes, _) = cut_at_space(rest);
-    let names = read_number(names)?;
-    let bytes = size_of(bytes)?;
-    Some(Counts { names, bytes })
-}
-
 /// Cuts a text by what its first line says.
 fn cut(text: &[u8]) -> Option<Parts<'_>>
     ensures parts { IfSome result (λ parts. (rest : Text)
@@ -77,14 +55,18 @@ fn cut(text: &[u8]) -> Option<Parts<'_>>
         × (parts.names ≡ length names) × (parts.body.now ≡ body)) }
 {
     let (line, after) = cut_at(text, b'\n')?;
-    let counts = counts_of(line)?;
-    if counts.bytes > after.len() {
+    let (_, words) = cut_at_space(line);
+    let (names, words) = cut_at_space(words);
+    let (bytes, _) = cut_at_space(words);
+    let names = read_number(names)?;
+    let bytes = size_of(bytes)?;
+    if bytes > after.len() {
         return None;
     }
     Some(Parts {
         line,
-        names: counts.names,
-        body: &after[..counts.bytes],
+        names,
+        body: &after[..bytes],
     })
 }
 

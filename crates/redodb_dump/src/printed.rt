@@ -5,7 +5,7 @@ ghost use Rattle.sha1.specs.Sha1.{sha1};
 ghost use Rattle.redodb_model.specs.Names.{text_at};
 ghost use Rattle.redodb_history.specs.Histories.{ended};
 ghost use Rattle.redodb_live.specs.Support.LiveState.{state_in};
-ghost use Rattle.redodb_dump.specs.Dumps.{HasSessions, IsStateOver, body_of, cell_line, dump_of, numbers_of, rows_line, state_line};
+ghost use Rattle.redodb_dump.specs.Dumps.{HasSessions, IsStateOver, cell_line, dump_of, numbers_of, rows_line, state_line};
 ghost use Rattle.redodb_dump.specs.Support.Forms.{HasNameForm, HaveNameForms, HaveRowForms};
 
 use crate::cells::put_cell;
@@ -91,21 +91,6 @@ pub(crate) fn state_line(alloc: Global, live: &Live, body: &[u8]) -> Result<Vec<
     Ok(line)
 }
 
-/// All that is known of the names.
-fn body(alloc: Global, live: &Live) -> Result<Vec<u8>, AllocError>
-    ensures text { IfOk result
-        (λ body. body.items ≡ body_of live.now.names (state_in live.now)) }
-    ensures names { IfOk result
-        (λ body. HaveNameForms live.now.names (state_in live.now) (length live.now.names)) }
-    ensures rows { IfOk result
-        (λ body. HaveRowForms live.now.names (state_in live.now) (length live.now.names)) }
-{
-    let mut body = Vec::new(alloc);
-    put_names(&mut body, live)?;
-    put_targets(alloc, &mut body, live)?;
-    Ok(body)
-}
-
 /// The text of the database's state.
 pub fn dump(alloc: Global, live: &Live) -> Result<DumpText, AllocError>
     ensures dump { IfOk result (λ text. text.head.items ++ text.body.items
@@ -116,7 +101,9 @@ pub fn dump(alloc: Global, live: &Live) -> Result<DumpText, AllocError>
     // the laws that `over` rests on
     live.builders_hold();
     let _count = live.count();
-    let body = body(alloc, live)?;
+    let mut body = Vec::new(alloc);
+    put_names(&mut body, live)?;
+    put_targets(alloc, &mut body, live)?;
     let head = state_line(alloc, live, &body)?;
     Ok(DumpText { head, body })
 }

@@ -4,7 +4,7 @@ ghost use Rattle.std.specs.List.{flat_map};
 ghost use Rattle.redodb_model.specs.Names.{Text, text_at};
 ghost use Rattle.redodb_text.specs.Texts.{after_space};
 ghost use Rattle.redodb_live.specs.Support.LiveState.{state_in};
-ghost use Rattle.redodb_dump.specs.Dumps.{HasMarkForm, numbers_of, row_words_at, rows_line, rows_text};
+ghost use Rattle.redodb_dump.specs.Dumps.{HasMarkForm, rows_line, rows_text};
 ghost use Rattle.redodb_dump.specs.Support.Forms.{HasRowForms};
 ghost use Rattle.redodb_dump.specs.Support.Slots.{has_rows, slot_words};
 
@@ -38,23 +38,6 @@ fn put_slot(out: &mut Vec<u8>, live: &Live, slot: &Slot) -> Result<(), AllocErro
     }
 }
 
-/// Writes the words of the target's rows, by the ascending numbers of the names that they are on, in place of what
-/// `words` has.
-fn put_row_words(words: &mut Vec<u8>, live: &Live, t: u32) -> Result<(), AllocError>
-    requires { t < length live.now.names }
-    ensures text { OnOk result (words.new.items ≡ flat_map after_space
-        (flat_map (row_words_at live.now.names (state_in live.now) (text_at live.now.names t))
-        (numbers_of live.now.names))) }
-    ensures forms { OnOk result
-        (HasRowForms live.now.names (state_in live.now) (text_at live.now.names t)) }
-{
-    words.clear();
-    for slot in live.slots(t) {
-        put_slot(words, live, slot)?;
-    }
-    Ok(())
-}
-
 /// Writes the line of a target with these rows, if it has any.
 fn put_line(out: &mut Vec<u8>, t: u32, always: bool, words: &[u8]) -> Result<(), AllocError>
     ensures { (rows : List Text) → words.now ≡ flat_map after_space rows
@@ -70,8 +53,8 @@ fn put_line(out: &mut Vec<u8>, t: u32, always: bool, words: &[u8]) -> Result<(),
     Ok(())
 }
 
-/// Writes the line of the target with this number, if it has rows. What `words` has is lost: its memory serves one
-/// target after another.
+/// Writes the line of the target with this number, if it has rows: they are by the ascending numbers of the names that
+/// they are on. What `words` has is lost: its memory serves one target after another.
 pub(crate) fn put_rows(
     words: &mut Vec<u8>,
     out: &mut Vec<u8>,
@@ -84,6 +67,9 @@ pub(crate) fn put_rows(
     ensures forms { OnOk result
         (HasRowForms live.now.names (state_in live.now) (text_at live.now.names t)) }
 {
-    put_row_words(words, live, t)?;
+    words.clear();
+    for slot in live.slots(t) {
+        put_slot(words, live, slot)?;
+    }
     put_line(out, t, live.always(t), words)
 }

@@ -7,4 +7,5 @@ returns-clause-over c =
     let live = c.args.live.now in
     λ sessions.
     is_state_over live.names c.count-count.ensures.names (state_of live.tables)
-    c.builders_hold.ensures sessions c.in_ok-body.ensures.names c.in_ok-body.ensures.rows
+    c.builders_hold.ensures sessions c.in_ok-put_names.ensures.forms
+    c.in_ok-put_targets.ensures.forms

@@ -5,7 +5,7 @@ use Rattle.redodb_text.specs.Texts.{after_space}
 use Rattle.redodb_live.specs.Support.LiveState.{state_in}
 use Rattle.redodb_dump.specs.Dumps.{HasMarkForm}
 use Rattle.redodb_dump.specs.Support.Slots.{slot_words}
-use Rattle.redodb_dump.proofs.rows.put_row_words.Given as goal
+use Rattle.redodb_dump.proofs.rows.put_rows.Given as goal
 
 abbrev pub invariant-loop-slot : goal.invariant-loop-slot
 invariant-loop-slot l = record {
