@@ -1,5 +1,5 @@
 -- The state and the answer after a session's end.
-use Rattle.std.proofs.Common.{◌≡◌, ◌≢◌, ◌↔◌, ◌+◌, ◌^◌, ◌<◌, ℕ, List, ◌++◌, inl, inr, Option, Some, None, is_some, refl, sym, ap, ◌∙◌, subst, map, length, arith}
+use Rattle.std.proofs.Common.{◌≡◌, ◌≢◌, ◌↔◌, ◌+◌, ◌^◌, ◌<◌, ℕ, List, ◌++◌, Option, Some, None, is_some, refl, sym, ap, ◌∙◌, subst, map, length, arith}
 use Rattle.std.specs.Prelude.{nat_eq}
 use Rattle.std.specs.List.{AllByRecursion, Contains, IsDistinct, flat_map}
 use Rattle.std.specs.List.Sorted.{IsPermutation, IsStrictlyIncreasing}
@@ -35,9 +35,9 @@ use Rattle.redodb_live.specs.Support.Kept.{IsKept}
 use Rattle.redodb_live.specs.Support.LiveState.{LiveState}
 use Rattle.redodb_live.specs.Support.Ordered.{AreSortedAgain}
 use Rattle.redodb_live.specs.Support.Appended.{EndsSession}
-use Rattle.redodb_live.specs.Support.AnswerFaults.{IsUnendedFor, WouldEnd}
+use Rattle.redodb_live.specs.Support.AnswerFaults.{IsUnendedFor, IsUnwrittenFor, WouldEnd}
 use Rattle.redodb_live.specs.declared.fault.AnswerFault.{AnswerFault}
-use Rattle.redodb_live.proofs.Obeying.{IsUnwrittenFor}
+use Rattle.redodb_live.specs.declared.fault.AnswerFault.TheVariants.{Unanswered, TooLong}
 use Rattle.redodb_live.specs.Support.Within.{IsStateWithin}
 use Rattle.redodb_live.proofs.Answering.{renaming, number_is_strict, orders, alike}
 use Rattle.redodb_live.proofs.Closing.{all_closing, closing_by_name, few_lines, kept_then, left_texts, legal_numbers, lines_below}
@@ -57,10 +57,9 @@ numbered_by f s (Some k) e = (k, refl)
 pub unended : (live : LiveState) (session most : ℕ) (why : AnswerFault) (text : Text)
     → WouldEnd live session (length text) → IsUnwrittenFor text most why
     → IsUnendedFor live session most why
-unended live session most why text would (inl e) =
-    subst (IsUnendedFor live session most) (sym e) refl
-unended live session most why text would (inr (e, more)) =
-    subst (IsUnendedFor live session most) (sym e) (more, would)
+unended live session most (Unanswered why) text would e = e
+unended live session most (TooLong size) text would (more, e) =
+    (more, subst (WouldEnd live session) (sym e) would)
 
 -- the same numbers in another order are below the same count
 pub sorted_below : (n : ℕ) (ns ms : List ℕ) → IsPermutation ns ms → AllBelow n ns → AllBelow n ms

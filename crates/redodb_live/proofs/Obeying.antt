@@ -1,13 +1,12 @@
 -- The line of the answer answers a session's command.
-use Rattle.std.proofs.Common.{◌≡◌, ◌+◌, ◌*◌, ◌^◌, ◌<◌, ◌⊎◌, inl, inr, ℕ, Bool, cond, List, [], ◌∷◌, ◌++◌, refl, sym, ap, ◌∙◌, subst, length}
+use Rattle.std.proofs.Common.{◌≡◌, ◌+◌, ℕ, Bool, cond, List, [], ◌∷◌, ◌++◌, refl, sym, ap, ◌∙◌, subst, length}
 use Rattle.std.specs.Ordering.{nat_cmp}
-use Rattle.redodb_names.specs.Support.Names.{AreNames}
 use Rattle.redodb_model.specs.Names.{Text, texts, text_at, by_number, by_text}
 use Rattle.redodb_model.specs.State.{State}
 use Rattle.redodb_model.specs.Command.{Command}
 use Rattle.redodb_model.specs.Step.{Answers, after}
 use Rattle.redodb_model.specs.Changes.{changes}
-use Rattle.redodb_model.specs.Renaming.{IsBelow, named_command, named_reply}
+use Rattle.redodb_model.specs.Renaming.{named_command, named_reply}
 use Rattle.redodb_model.specs.Support.Renaming.{named_state, numbering}
 use Rattle.redodb_model.proofs.StepsByName.{after_by_name}
 use Rattle.redodb_model.proofs.Texts.{texts_are_names}
@@ -16,12 +15,12 @@ use Rattle.redodb_commands.specs.declared.reply.Line.{Line}
 use Rattle.redodb_commands.specs.declared.reply.Reply.{Reply}
 use Rattle.redodb_text.specs.Grammar.{IsCommandLine, AddsNames}
 use Rattle.redodb_database.specs.Tables.{Tables, state_of, tables_records, calls_of}
+use Rattle.redodb_history.specs.Histories.{line_text_of}
 use Rattle.redodb_live.specs.Support.Answered.{logged_text}
 use Rattle.redodb_live.specs.Support.LiveState.{LiveState, state_in, calls_in, IsSameDatabase}
 use Rattle.redodb_live.specs.Support.Kept.{IsKept}
-use Rattle.redodb_live.specs.Support.Appended.{IsReplyLine, IsObeyed, AnswersText, IsUnansweredFor}
-use Rattle.redodb_live.specs.Support.AnswerFaults.{WouldObey, IsUnobeyedFor, IsAnswerFaultFor}
-use Rattle.redodb_live.specs.declared.fault.Unanswered.TheVariants.{Memory}
+use Rattle.redodb_live.specs.Support.Appended.{IsDue, IsObeyed, AnswersText, IsUnansweredFor}
+use Rattle.redodb_live.specs.Support.AnswerFaults.{WouldObey, IsUnobeyedFor, IsUnwrittenFor, IsAnswerFaultFor}
 use Rattle.redodb_live.specs.declared.fault.AnswerFault.{AnswerFault}
 use Rattle.redodb_live.specs.declared.fault.AnswerFault.TheVariants.{Unanswered, TooLong}
 use Rattle.redodb_live.proofs.Answering.{renaming, now_answers}
@@ -35,88 +34,80 @@ before names tables old old_names old_state =
     ap (named_state (numbering names)) old_state
     ∙ ap (λ (ns : List Text). named_state (numbering ns) (state_of old.tables)) old_names
 
-module _ (names : List Text) (are : AreNames names) (tables : Tables)
-    (kept : IsKept names (state_of tables) (calls_of tables)) (session : ℕ) (command : Command ℕ)
-    (below : IsBelow (length names) command) (reply_line : Line) (reply : Reply)
-    (text : Text)
-    (is : IsReplyLine (record { names = names; tables = tables }) session command reply_line reply
-    text)
+module _ (names : List Text) (tables : Tables)
+    (kept : IsKept names (state_of tables) (calls_of tables)) (reply_line : Line) (reply : Reply)
+    (due : IsDue (record { names = names; tables = tables }) reply_line reply)
   where
-    asked_below : IsBelow (length names) (command_of reply_line.command)
-    asked_below = subst (IsBelow (length names)) (sym is.command_is) below
-
-    line_answers : Answers texts (named_state (numbering names) (state_of tables)) session
-        (named_command (text_at names) command)
+    line_answers : Answers texts (named_state (numbering names) (state_of tables))
+        reply_line.session (named_command (text_at names) (command_of reply_line.command))
         (named_reply (text_at names) (reply_of reply_line.reply))
     line_answers =
-        now_answers names are tables kept.within session command below (reply_of reply)
-        (reply_of reply_line.reply) is.answers is.sorted
+        now_answers names due.names tables kept.within reply_line.session
+        (command_of reply_line.command) due.below (reply_of reply) (reply_of reply_line.reply)
+        due.answers due.sorted
 
     line_changes : changes (named_state (numbering names) (state_of tables)).records
         (line_at names reply_line).command (line_at names reply_line).reply
         ≡ changes (tables_records tables) (command_of reply_line.command) (reply_of reply)
     line_changes =
-        changes_by_name (by_text names).order names are (tables_records tables)
-        (reply_of reply) (reply_of reply_line.reply) is.sorted
-        (command_of reply_line.command) asked_below
+        changes_by_name (by_text names).order names due.names (tables_records tables)
+        (reply_of reply) (reply_of reply_line.reply) due.sorted
+        (command_of reply_line.command) due.below
 
     module _ (old : LiveState) (old_names : names ≡ old.names)
-        (old_state : state_of tables ≡ state_of old.tables)
+        (old_state : state_of tables ≡ state_of old.tables) (text : Text)
+        (is : text ≡ line_text_of (line_at names reply_line))
       where
         line_command : (line_at names reply_line).command
-            ≡ named_command (text_at old.names) command
+            ≡ named_command (text_at old.names) (command_of reply_line.command)
         line_command =
-            ap (named_command (text_at names)) is.command_is
-            ∙ ap (λ (ns : List Text). named_command (text_at ns) command) old_names
+            ap (λ (ns : List Text). named_command (text_at ns) (command_of reply_line.command))
+            old_names
 
-        line_answers_there : Answers texts (state_in old) session (line_at names reply_line).command
-            (line_at names reply_line).reply
+        line_answers_there : Answers texts (state_in old) reply_line.session
+            (line_at names reply_line).command (line_at names reply_line).reply
         line_answers_there =
             let line = line_at names reply_line in
-            subst (λ (st : State Text). Answers texts st session line.command line.reply)
-            (before names tables old old_names old_state)
-            (subst (λ (asked : Command ℕ). Answers texts
-            (named_state (numbering names) (state_of tables)) session
-            (named_command (text_at names) asked) line.reply) (sym is.command_is) line_answers)
+            subst (λ (st : State Text). Answers texts st reply_line.session line.command line.reply)
+            (before names tables old old_names old_state) line_answers
 
-        pub would_obey : WouldObey old session command (length text)
+        pub would_obey : WouldObey old reply_line.session (command_of reply_line.command)
+            (length text)
         would_obey = record {
           line = line_at names reply_line;
-          session_is = is.session_is;
+          session_is = refl;
           command_is = line_command;
           answers = line_answers_there;
-          size_is = ap length is.text_is;
+          size_is = ap length is;
         }
 
     module _ (next : Tables)
         (steps : state_of next
-        ≡ after by_number (state_of tables) session (command_of reply_line.command))
+        ≡ after by_number (state_of tables) reply_line.session (command_of reply_line.command))
         (counted : calls_of next ≡ calls_of tables + 1)
       where
-        same_step : state_of next ≡ after by_number (state_of tables) session command
-        same_step =
-            steps ∙ ap (after by_number (state_of tables) session) is.command_is
-
-        pub kept_after : calls_of tables + 1 + 2 * length names < 2 ^ 32
-            → IsKept names (state_of next) (calls_of next)
-        kept_after left =
-            subst (λ (st : State ℕ). IsKept names st (calls_of next)) (sym same_step)
+        pub kept_after : IsKept names (state_of next) (calls_of next)
+        kept_after =
+            let session = reply_line.session in
+            let command = command_of reply_line.command in
+            subst (λ (st : State ℕ). IsKept names st (calls_of next)) (sym steps)
             (subst (IsKept names (after by_number (state_of tables) session command)) (sym counted)
-            (IsKept-after names are nat_cmp (state_of tables) session command
-            (named_reply (text_at names) (reply_of reply_line.reply)) (calls_of tables) left below
-            kept line_answers))
+            (IsKept-after names due.names nat_cmp (state_of tables) session command
+            (named_reply (text_at names) (reply_of reply_line.reply)) (calls_of tables) due.calls
+            due.below kept line_answers))
 
-        pub obeyed : (old : LiveState) (output output_after logged logged_after : Text) (b : Bool)
-            → names ≡ old.names → state_of tables ≡ state_of old.tables
+        pub obeyed : (old : LiveState) (text output output_after logged logged_after : Text)
+            (b : Bool) → names ≡ old.names → state_of tables ≡ state_of old.tables
             → calls_of tables ≡ calls_in old
+            → text ≡ line_text_of (line_at names reply_line)
             → b ≡ changes (tables_records tables) (command_of reply_line.command)
             (reply_of reply)
             → output_after ≡ output ++ text
             → logged_after ≡ logged ++ cond b text []
-            → IsObeyed old (record { names = names; tables = next }) session command output
-            output_after logged logged_after
-        obeyed old output output_after logged logged_after b old_names old_state old_calls changing
-            writes logs =
+            → IsObeyed old (record { names = names; tables = next }) reply_line.session
+            (command_of reply_line.command) output output_after logged logged_after
+        obeyed old text output output_after logged logged_after b old_names old_state old_calls is
+            changing writes logs =
             let line = line_at names reply_line in
             let same = before names tables old old_names old_state in
             let is_changing : b ≡ changes (state_in old).records line.command line.reply =
@@ -125,36 +116,30 @@ module _ (names : List Text) (are : AreNames names) (tables : Tables)
             let logged_is : cond b text [] ≡ logged_text (state_in old) line =
             ap (λ (w : Bool). cond w text []) is_changing
             ∙ ap (λ (t : Text). cond (changes (state_in old).records line.command line.reply) t [])
-            is.text_is in
+            is in
             record {
               line = line;
-              session_is = is.session_is;
-              command_is = line_command old old_names old_state;
-              answers = line_answers_there old old_names old_state;
+              session_is = refl;
+              command_is = line_command old old_names old_state text is;
+              answers = line_answers_there old old_names old_state text is;
               after_is = ap (named_state (numbering names)) steps
-                  ∙ after_by_name (renaming names are) texts texts_are_names nat_cmp
-                  (state_of tables) session (command_of reply_line.command) asked_below
-                  ∙ ap (λ (st : State Text). after texts st session line.command) same;
+                  ∙ after_by_name (renaming names due.names) texts texts_are_names nat_cmp
+                  (state_of tables) reply_line.session (command_of reply_line.command) due.below
+                  ∙ ap (λ (st : State Text). after texts st reply_line.session line.command) same;
               appended = record {
-                writes = writes ∙ ap (λ (t : Text). output ++ t) is.text_is;
+                writes = writes ∙ ap (λ (t : Text). output ++ t) is;
                 logs = logs ∙ ap (λ (t : Text). logged ++ t) logged_is;
                 calls = counted ∙ ap (λ (n : ℕ). n + 1) old_calls;
               };
             }
 
--- why a text of at most so many bytes wasn't appended
-abbrev pub IsUnwrittenFor : Text → ℕ → AnswerFault → Type 0
-IsUnwrittenFor text most why =
-    (why ≡ Unanswered Memory) ⊎ ((why ≡ TooLong (length text)) × (most < length text))
-
--- then its command isn't obeyed
+-- if the text of its line wasn't appended, a command isn't obeyed
 pub unobeyed : (old : LiveState) (session : ℕ) (command : Command ℕ) (most : ℕ) (why : AnswerFault)
     (text : Text) → WouldObey old session command (length text) → IsUnwrittenFor text most why
     → IsUnobeyedFor old session command most why
-unobeyed old session command most why text would (inl e) =
-    subst (IsUnobeyedFor old session command most) (sym e) refl
-unobeyed old session command most why text would (inr (e, more)) =
-    subst (IsUnobeyedFor old session command most) (sym e) (more, would)
+unobeyed old session command most (Unanswered why) text would e = e
+unobeyed old session command most (TooLong size) text would (more, e) =
+    (more, subst (WouldObey old session command) (sym e) would)
 
 module _ (old mid : LiveState) (names : mid.names ≡ old.names) (same : IsSameDatabase old mid) where
   same_state : state_in mid ≡ state_in old

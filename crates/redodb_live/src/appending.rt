@@ -1,12 +1,11 @@
-ghost use Rattle.std.specs.Prelude.{◌≡◌, ◌<◌, ◌≤◌, ◌⊎◌, ◌++◌, [], length, if◌then◌else◌, IfOk, IfErr, OnOk, OnErr};
+ghost use Rattle.std.specs.Prelude.{◌≡◌, ◌≤◌, ◌++◌, [], length, if◌then◌else◌, IfOk, IfErr, OnOk, OnErr};
 ghost use Rattle.redodb_model.specs.Renaming.{IsLineBelow};
 ghost use Rattle.redodb_model.specs.Names.{by_text};
 ghost use Rattle.redodb_commands.specs.Meaning.{command_of, reply_of, line_of, line_at};
 ghost use Rattle.redodb_history.specs.Histories.{line_text_of};
 ghost use Rattle.redodb_live.specs.Support.Ordered.{IsSortedReply};
 ghost use Rattle.redodb_live.specs.Support.Appended.{AppendsNothing};
-ghost use Rattle.redodb_live.specs.declared.fault.Unanswered.TheVariants.{Memory};
-ghost use Rattle.redodb_live.specs.declared.fault.AnswerFault.TheVariants.{Unanswered, TooLong};
+ghost use Rattle.redodb_live.specs.Support.AnswerFaults.{IsUnwrittenFor};
 
 use crate::fault::AnswerFault;
 use crate::ordering::ordered;
@@ -69,8 +68,7 @@ pub(crate) fn append_within(
     ensures output { OnOk result (output.new.items ≡ output.old.items ++ text.now) }
     ensures logged { OnOk result (logged.new.items ≡ logged.old.items ++ kept.now) }
     ensures fits { OnOk result (length text.now ≤ most) }
-    ensures cause { IfErr result (λ why. (why ≡ Unanswered Memory)
-        ⊎ ((why ≡ TooLong (length text.now)) × (most < length text.now))) }
+    ensures cause { IfErr result (IsUnwrittenFor text.now most) }
     ensures err { OnErr result
         (AppendsNothing output.old.items output.new.items logged.old.items logged.new.items) }
 {

@@ -1,5 +1,5 @@
 //! The answers about a name: words, each with the space before it.
-ghost use Rattle.std.specs.Prelude.{◌≡◌, ◌+◌, ◌<◌, ◌++◌, Some, length, map, decimal, option_map, true, OnOk, IfSome};
+ghost use Rattle.std.specs.Prelude.{◌≡◌, ◌+◌, ◌<◌, ◌++◌, length, map, decimal, option_map, true, OnOk, IfSome};
 ghost use Rattle.std.specs.List.{flat_map};
 ghost use Rattle.redodb_model.specs.Names.{text_at};
 ghost use Rattle.redodb_model.specs.Support.Deps.{AreDepsBelow};
@@ -16,6 +16,7 @@ ghost use Rattle.redodb_live.specs.Answers.{Standing, counted, deps_words, flag_
 ghost use Rattle.redodb_live.specs.Support.AnswerForms.{HasAnswerForm, HasStateForm};
 ghost use Rattle.redodb_live.specs.Support.Asked.{deps_at, users_at, why_at};
 
+use crate::known::stage_word;
 use redodb_commands::FileStamp;
 use redodb_database::{Deps, Reason, Users, Why};
 use redodb_history::put_count;
@@ -71,19 +72,6 @@ fn end_name<'a>(names: &'a Names, t: &'a [u8], chain: &[u32]) -> &'a [u8]
     }
 }
 
-/// Writes why `t` is out of date.
-fn put_chain(out: &mut Vec<u8>, names: &Names, t: &[u8], why: &Why) -> Result<(), AllocError>
-    requires { IsWhyBelow (length names.now) (why_of why.now) }
-    ensures { OnOk result (out.new.items ≡ out.old.items ++ flat_map after_space
-        (why_words t.now (Some (why_at names.now why.now)))) }
-{
-    let last = end_name(names, t, &why.names);
-    put_word(out, reason_word(why.reason))?;
-    put_word(out, reason_name(names, last, why.reason))?;
-    put_word(out, t)?;
-    put_names(out, names, &why.names)
-}
-
 /// Writes why `t` is out of date, or that it isn't.
 pub(crate) fn put_why(
     out: &mut Vec<u8>,
@@ -97,7 +85,13 @@ pub(crate) fn put_why(
 {
     match found {
         None => put_word(out, b"clean"),
-        Some(why) => put_chain(out, names, t, why),
+        Some(why) => {
+            let last = end_name(names, t, &why.names);
+            put_word(out, reason_word(why.reason))?;
+            put_word(out, reason_name(names, last, why.reason))?;
+            put_word(out, t)?;
+            put_names(out, names, &why.names)
+        }
     }
 }
 
@@ -156,14 +150,10 @@ fn put_stage(out: &mut Vec<u8>, state: State) -> Result<(), AllocError>
         ≡ out.old.items ++ flat_map after_space (stage_words (target_state_of state))) }
     ensures form { HasStateForm (target_state_of state) }
 {
+    put_word(out, stage_word(state))?;
     match state {
-        State::Idle => put_word(out, b"idle"),
-        State::Building(session) => {
-            put_word(out, b"building")?;
-            put_session(out, session)
-        }
-        State::Built => put_word(out, b"built"),
-        State::Failed => put_word(out, b"failed"),
+        State::Building(session) => put_session(out, session),
+        _ => Ok(()),
     }
 }
 

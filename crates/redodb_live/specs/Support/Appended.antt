@@ -7,7 +7,7 @@ use Rattle.redodb_model.specs.Command.{Command}
 use Rattle.redodb_model.specs.History.{Line}
 use Rattle.redodb_model.specs.Renaming.{IsBelow, named_command}
 use Rattle.redodb_model.specs.Step.{Answers, after}
-use Rattle.redodb_commands.specs.Meaning.{command_of, reply_of, line_at}
+use Rattle.redodb_commands.specs.Meaning.{command_of, reply_of}
 use Rattle.redodb_commands.specs.declared.reply.Line.{Line as LineOfNumbers}
 use Rattle.redodb_commands.specs.declared.reply.Reply.{Reply as ReplyOfNumbers}
 use Rattle.redodb_text.specs.Questions.{line_fault}
@@ -49,16 +49,6 @@ pub record IsDue (live : LiveState) (line : LineOfNumbers) (reply : ReplyOfNumbe
   pub answers : Answers by_number (state_of live.tables) line.session (command_of line.command)
       (reply_of reply)
   pub sorted : IsSortedReply (by_text live.names).order (reply_of reply) (reply_of line.reply)
-
--- the line has the database's reply to the session's command, with its names in the order of their
--- texts, and this is its text
-pub record IsReplyLine (live : LiveState) (session : ℕ) (command : Command ℕ) (line : LineOfNumbers)
-    (reply : ReplyOfNumbers) (text : Text) : Type 0 where
-  pub session_is : line.session ≡ session
-  pub command_is : command_of line.command ≡ command
-  pub answers : Answers by_number (state_of live.tables) session command (reply_of reply)
-  pub sorted : IsSortedReply (by_text live.names).order (reply_of reply) (reply_of line.reply)
-  pub text_is : text ≡ line_text_of (line_at live.names line)
 
 -- the line was appended to `output`, and to `logged` if it changes something
 pub record AppendsLine (old new : LiveState) (line : Line Text) (output output_after logged

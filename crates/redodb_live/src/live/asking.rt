@@ -13,7 +13,6 @@ ghost use Rattle.redodb_model.specs.Names.{Text, texts};
 ghost use Rattle.redodb_model.specs.State.{target_state};
 ghost use Rattle.redodb_database.specs.Meaning.{deps_of, users_of, why_of};
 ghost use Rattle.redodb_text.specs.Texts.{after_space};
-ghost use Rattle.redodb_text.specs.Inquiries.{inquiry_word};
 ghost use Rattle.redodb_live.specs.Answers.{Answer, IsAnswer, Rows, Standing, Uses, answer_words, inquiry_of, state_words};
 ghost use Rattle.redodb_live.specs.Support.AnswerForms.{AnswersInForm, HasAnswerForm, HasWhyForm};
 ghost use Rattle.redodb_live.specs.Support.Asked.{deps_at, users_at, why_at};

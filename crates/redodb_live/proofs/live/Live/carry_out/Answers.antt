@@ -1,29 +1,16 @@
-use Rattle.std.proofs.Common.{◌≡◌, ◌∙◌, ◌++◌, [], cond, length, refl, sym, ap, subst}
+use Rattle.std.proofs.Common.{◌≡◌, ◌∙◌, ◌++◌, [], cond, length, sym, ap, subst}
 use Rattle.std.proofs.lemmas.Result.{err_from_is_err_and}
 use Rattle.redodb_model.specs.Names.{Text}
-use Rattle.redodb_commands.specs.Meaning.{command_of, reply_of, line_at}
-use Rattle.redodb_commands.specs.declared.reply.Line.{Line as LineOfNumbers}
-use Rattle.redodb_commands.specs.declared.reply.Reply.{Reply as ReplyOfNumbers}
+use Rattle.redodb_commands.specs.Meaning.{command_of, reply_of}
 use Rattle.redodb_database.specs.Tables.{state_of, tables_count}
-use Rattle.redodb_history.specs.Histories.{line_text_of}
 use Rattle.redodb_live.specs.Support.Kept.{live_of}
 use Rattle.redodb_live.specs.Support.LiveState.{LiveState, calls_in}
-use Rattle.redodb_live.specs.Support.Appended.{IsDue, IsReplyLine}
+use Rattle.redodb_live.specs.Support.AnswerFaults.{IsUnwrittenFor}
+use Rattle.redodb_live.specs.Support.Appended.{IsDue}
 use Rattle.redodb_live.proofs.Answering.{below_more, now_below}
-use Rattle.redodb_live.proofs.Obeying.{IsUnwrittenFor, kept_after, obeyed, unobeyed, would_obey}
+use Rattle.redodb_live.proofs.Obeying.{kept_after, obeyed, unobeyed, would_obey}
 use Rattle.redodb_live.proofs.live.Live.carry_out.Goals as goal
 use Rattle.redodb_live.proofs.live.Live.carry_out.Goals.{After-take_line-old_line}
-
-as_reply_line : (live : LiveState) (line : LineOfNumbers) (reply : ReplyOfNumbers) (text : Text)
-    → IsDue live line reply → text ≡ line_text_of (line_at live.names line)
-    → IsReplyLine live line.session (command_of line.command) line reply text
-as_reply_line live line reply text due is = record {
-  session_is = refl;
-  command_is = refl;
-  answers = due.answers;
-  sorted = due.sorted;
-  text_is = is;
-}
 
 -- what is required holds too of the database whose old line was taken
 due : (c : After-take_line-old_line) (live : LiveState) → live ≡ c.take_line-old_line.new.self
@@ -68,18 +55,17 @@ returns-in_err-append_within-clause-cause c =
     let line = c.args.line.now in
     let reply = c.args.reply.now in
     let text = c.in_ok-text.text.items in
-    let command = command_of line.command in
     let whole = c.self.view_is ∙ c.take_line-old_line.ensures in
     let due = due (goal.at.returns-in_err-append_within-clause-cause c).After-take_line-old_line
     (live_of c.self.inside) c.self.view_is in
-    let is = as_reply_line (live_of c.self.inside) line reply text due c.in_ok-text.ensures in
     let failed = err_from_is_err_and c.from_residual-in_err-append_within.result
     c.from_residual-in_err-append_within.ensures.1 in
     rw (failed.1, failed.2)
-    (unobeyed c.args.self.now line.session command c.args.most c.in_err-append_within.field-0.0 text
-    (would_obey names due.names tables c.self.invariant.state line.session command due.below line
-    reply text is c.args.self.now (ap (λ (l : LiveState). l.names) whole)
-    (ap (λ (l : LiveState). state_of l.tables) whole))
+    (unobeyed c.args.self.now line.session (command_of line.command) c.args.most
+    c.in_err-append_within.field-0.0 text
+    (would_obey names tables c.self.invariant.state line reply due c.args.self.now
+    (ap (λ (l : LiveState). l.names) whole) (ap (λ (l : LiveState). state_of l.tables) whole) text
+    c.in_ok-text.ensures)
     (subst (λ (t : Text). IsUnwrittenFor t c.args.most c.in_err-append_within.field-0.0)
     c.deref.ensures.value c.in_err-append_within.ensures.cause))
 
@@ -92,12 +78,10 @@ invariant_of-self c =
     let text = c.in_ok-text.text.items in
     let due = due (goal.at.invariant_of-self c).After-take_line-old_line
     (live_of c.self.inside) c.self.view_is in
-    let is = as_reply_line (live_of c.self.inside) line reply text due c.in_ok-text.ensures in
     record {
       few = c.self.invariant.few;
-      state = kept_after names due.names tables c.self.invariant.state line.session
-          (command_of line.command) due.below line reply text is c.change.new.self
-          c.change.ensures.after c.change.ensures.calls due.calls;
+      state = kept_after names tables c.self.invariant.state line reply due c.change.new.self
+          c.change.ensures.after c.change.ensures.calls;
       numbers = c.self.invariant.numbers ∙ sym c.change.ensures.count;
     }
 
@@ -111,15 +95,14 @@ returns-clause-obeyed c =
     let whole = c.self.view_is ∙ c.take_line-old_line.ensures in
     let due = due (goal.at.returns-clause-obeyed c).After-take_line-old_line
     (live_of c.self.inside) c.self.view_is in
-    let is = as_reply_line (live_of c.self.inside) line reply text due c.in_ok-text.ensures in
     let output = c.args.output.now.items in
     let logged = c.args.logged.now.items in
     let changes = c.changes-changes.result in
-    obeyed names due.names tables c.self.invariant.state line.session (command_of line.command)
-    due.below line reply text is c.change.new.self c.change.ensures.after c.change.ensures.calls
-    c.args.self.now output c.append_within.new.output.items logged c.append_within.new.logged.items
-    changes (ap (λ (l : LiveState). l.names) whole) (ap (λ (l : LiveState). state_of l.tables)
-    whole) (ap calls_in whole) c.changes-changes.ensures
+    obeyed names tables c.self.invariant.state line reply due c.change.new.self
+    c.change.ensures.after c.change.ensures.calls c.args.self.now text output
+    c.append_within.new.output.items logged c.append_within.new.logged.items changes
+    (ap (λ (l : LiveState). l.names) whole) (ap (λ (l : LiveState). state_of l.tables) whole)
+    (ap calls_in whole) c.in_ok-text.ensures c.changes-changes.ensures
     (c.in_ok-append_within.ensures.output ∙ ap (λ (t : Text). output ++ t) c.deref.ensures.value)
     (c.in_ok-append_within.ensures.logged
     ∙ ap (λ (t : Text). logged ++ t) (c.text_if.ensures
