@@ -47,11 +47,7 @@ impl Counted {
 
     /// Counts an operation. Returns how many bytes it takes at most, if it fails.
     fn most(&mut self) -> Option<usize> {
-        if self.fails() {
-            Some(self.failing.most)
-        } else {
-            None
-        }
+        self.fails().then_some(self.failing.most)
     }
 }
 

@@ -1,4 +1,4 @@
-ghost use Rattle.std.specs.Prelude.{◌≡◌, ◌==◌, ◌<◌, ◌≤◌, ◌+◌, ◌-◌, ◌++◌, ℕ, List, None, length, filter, IfOk, IfErr, IfSome, MatchOption, IsSomeAnd};
+ghost use Rattle.std.specs.Prelude.{◌≡◌, ◌==◌, ◌<◌, ◌≤◌, ◌+◌, ◌++◌, ℕ, List, length, filter, IfOk, IfErr, IfSome, MatchOption, IsSomeAnd};
 ghost use Rattle.redodb_model.specs.Names.{Text};
 ghost use Rattle.redodb_model.specs.Command.{Command};
 ghost use Rattle.redodb_model.specs.History.{Line};
