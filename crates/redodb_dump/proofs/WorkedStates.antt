@@ -13,7 +13,7 @@ use Rattle.redodb_commands.specs.Stamp.{is_stamp}
 use Rattle.redodb_text.proofs.Steps.{both, neither}
 use Rattle.redodb_history.proofs.Digests.{sha1_is_digest}
 use Rattle.redodb_dump.specs.Dumps.{HasCellForm, HasMarkForm, IsStateOver}
-use Rattle.redodb_dump.specs.Worked.{Known, RowsOn, unknown, known_of, rows_on, rows_of, state_with}
+use Rattle.redodb_dump.specs.Worked.{Known, RowsOn, with_file, known_of, rows_on, rows_of, state_with}
 use Rattle.redodb_dump.specs.Worked as worked
 
 -- names
@@ -56,7 +56,7 @@ IsForm known =
     × (known.grants < 2 ^ 32)
     × ((s : ℕ) → known.cell.state ≡ Building s → known.holder ≡ Some s)
 
-of_each : (P : Known → Type 0) → ((name : Text) → P (unknown name)) → (all : List Known)
+of_each : (P : Known → Type 0) → ((name : Text) → P (with_file name None)) → (all : List Known)
     → AllByRecursion P all → (name : Text) → P (known_of all name)
 of_each P none [] are name = none name
 of_each P none (known ∷ all) are name =
@@ -89,7 +89,7 @@ is_none names name text has none = by (bytes_eq name text) refl
 
 unknown_is : (names : List Text) (all : List Known)
     → AllByRecursion (Contains names) (map (λ (known : Known). known.name) all) → (text : Text)
-    → (Contains names text → ⊥) → known_of all text ≡ unknown text
+    → (Contains names text → ⊥) → known_of all text ≡ with_file text None
 unknown_is names [] are text none = refl
 unknown_is names (known ∷ all) are text none =
     ap (λ b. if b then known else known_of all text)
@@ -106,9 +106,10 @@ no_rows_on names (rows ∷ all) are text none =
     (is_none names rows.name text are.0 none)
     ∙ no_rows_on names all are.1 text none
 
-unknown_has_form : (name : Text) → IsForm (unknown name)
-unknown_has_form name = (
-  record { file = tt; builds = omega arith; done = tt; digest = tt },
+with_file_has_form : (name : Text) (file : Option Text)
+    → IfSome file (λ stamp. is_stamp stamp ≡ true) → IsForm (with_file name file)
+with_file_has_form name file is = (
+  record { file = is; builds = omega arith; done = tt; digest = tt },
   tt,
   omega arith,
   λ s e. absurd cc,
@@ -161,7 +162,7 @@ state_is names all rows are known forms on = record {
 }
   where
     form : (name : Text) → IsForm (known_of all name)
-    form = of_each IsForm unknown_has_form all forms
+    form = of_each IsForm (λ name. with_file_has_form name None tt) all forms
 
 -- rows of one target
 
@@ -214,21 +215,12 @@ one_name n is = record { few = omega arith; distinct = distinct (n ∷ []) refl;
 pub nothing_is : IsStateOver [] empty
 nothing_is = state_is [] [] no_rows AreNames-none refl tt (no_rows_are [])
 
-with_file_has_form : (name : Text) (file : Option Text)
-    → IfSome file (λ stamp. is_stamp stamp ≡ true) → IsForm (worked.with_file name file)
-with_file_has_form name file is = (
-  record { file = is; builds = omega arith; done = tt; digest = tt },
-  tt,
-  omega arith,
-  λ s e. absurd cc,
-)
-
 pub source_is : IsStateOver (codes "a.c" ∷ []) worked.source
 unfolding is_name is_stamp
 source_is =
     let name = codes "a.c" in
     let file : Option Text = Some (codes "10") in
-    state_is (name ∷ []) (worked.with_file name file ∷ []) no_rows (one_name name refl)
+    state_is (name ∷ []) (with_file name file ∷ []) no_rows (one_name name refl)
     refl (with_file_has_form name file refl, tt) (no_rows_are (name ∷ []))
 
 pub building_is : IsStateOver (codes "T" ∷ []) worked.building
@@ -283,7 +275,7 @@ with_rows_is =
     (refl, (sha1_is_digest (codes "abc"), (omega arith, (tt, (tt, (refl, (tt, tt))))))))
   where
     file : (name stamp : Text) → is_stamp stamp ≡ true
-        → IsForm (worked.with_file name (Some stamp))
+        → IsForm (with_file name (Some stamp))
     file name stamp is = with_file_has_form name (Some stamp) is
 
     built : IsForm worked.built_target

@@ -13,11 +13,17 @@ pub record Known : Type 0 where
   pub grants : ℕ
   pub holder : Option ℕ
 
-abbrev pub unknown : Text → Known
-unknown name = record { name = name; cell = idle; grants = 0; holder = None }
+-- a name of which nothing is known but its file
+abbrev pub with_file : Text → Option Text → Known
+with_file name file = record {
+  name = name;
+  cell = record idle { file = file };
+  grants = 0;
+  holder = None;
+}
 
 abbrev pub known_of : List Known → Text → Known
-known_of [] name = unknown name
+known_of [] name = with_file name None
 known_of (known ∷ others) name =
     if bytes_eq known.name name then known else known_of others name
 
@@ -52,15 +58,6 @@ rows_of t rows = record {
 -- a change row alone
 abbrev pub marked : Text → Mark → RowsOn
 marked name mark = record { name = name; change = Some mark; created = false }
-
--- a name of which nothing is known but its file
-abbrev pub with_file : Text → Option Text → Known
-with_file name file = record {
-  name = name;
-  cell = record idle { file = file };
-  grants = 0;
-  holder = None;
-}
 
 abbrev pub nothing_dumped : Text
 nothing_dumped = ended (codes "state 0 0 49d53525733ab592fe7182d48f3e73401a9763ca")

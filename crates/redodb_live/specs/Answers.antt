@@ -25,12 +25,9 @@ reason_word (whys.Changed n) = codes "changed"
 
 -- the name in the answer with the reason of t: the one that appeared or changed, else t
 abbrev pub reason_name : {N : Type 0} → N → Reason N → N
-reason_name t whys.Building = t
-reason_name t whys.Failed = t
-reason_name t whys.Edited = t
-reason_name t whys.Always = t
 reason_name t (whys.Appeared n) = n
 reason_name t (whys.Changed n) = n
+reason_name t reason = t
 
 -- the reason with its name, and the chain
 abbrev pub why_words : Text → Option (whys.Why Text) → List Text
@@ -56,12 +53,17 @@ abbrev pub users_words : Users Text → List Text
 users_words users =
     codes "change" ∷ counted users.change ++ codes "created" ∷ counted users.created
 
+-- the word of a state, without a session
+abbrev pub stage_word : TargetState → Text
+stage_word Idle = codes "idle"
+stage_word (Building session) = codes "building"
+stage_word Built = codes "built"
+stage_word Failed = codes "failed"
+
 -- sessions are printed plus one
 abbrev pub stage_words : TargetState → List Text
-stage_words Idle = codes "idle" ∷ []
 stage_words (Building session) = codes "building" ∷ decimal (session + 1) ∷ []
-stage_words Built = codes "built" ∷ []
-stage_words Failed = codes "failed" ∷ []
+stage_words state = stage_word state ∷ []
 
 -- "-" means no holder
 abbrev pub holder_word : Option ℕ → Text
@@ -114,13 +116,6 @@ pub record AnswersInquiry (st : State Text) (session : ℕ) (inquiry : Inquiry)
     pub asked : inquiry_of answer ≡ inquiry
     pub is : IsAnswer st name answer
     pub line_is : line ≡ answer_line session name answer
-
--- the word of a state, without a session
-abbrev pub stage_word : TargetState → Text
-stage_word Idle = codes "idle"
-stage_word (Building session) = codes "building"
-stage_word Built = codes "built"
-stage_word Failed = codes "failed"
 
 abbrev pub cell_words : Text → Cell → List Text
 cell_words name cell =
