@@ -1,4 +1,3 @@
-ghost use Rattle.std.specs.Prelude.{◌≡◌, ◌≤◌, ◌++◌, drop, length};
 ghost use Rattle.redodb_c.specs.Calls.{Answers};
 
 use crate::contents::Opened;
@@ -15,14 +14,6 @@ pub struct AnswerSizes {
     pub size: usize,
     /// How many of them, from the first on, are to be logged.
     pub logged: usize,
-}
-
-/// Puts bytes at the beginning of the buffer.
-fn put(bytes: &[u8], room: &mut [u8])
-    requires { length bytes.now ≤ length room.old }
-    ensures { room.new ≡ bytes.now ++ drop (length bytes.now) room.old }
-{
-    room[..bytes.len()].copy_from_slice(bytes);
 }
 
 /// Answers a line into the buffer.
@@ -44,7 +35,7 @@ pub(crate) fn answer(
     logged.clear();
     match reply(alloc, live, line, room.len(), output, logged) {
         Ok(replied) => {
-            put(output, room);
+            room[..output.len()].copy_from_slice(output);
             sizes.size = output.len();
             sizes.logged = logged.len();
             match replied {

@@ -1,9 +1,7 @@
 //! What the library exports. Callers see to what a call needs in addition to its clauses: that pointers and lengths are
 //! those of memory that nobody else uses meanwhile.
-ghost use Rattle.std.specs.Prelude.{◌≡◌, [], IfOk};
+ghost use Rattle.std.specs.Prelude.{◌≡◌};
 ghost use Rattle.std.specs.Mem.{type_size};
-ghost use Rattle.redodb_model.specs.State.{empty};
-ghost use Rattle.redodb_live.specs.Support.LiveState.{state_in};
 ghost use Rattle.redodb_c.specs.Calls.{AnswersAt, Opens, Restores};
 ghost use Rattle.redodb_c.specs.contracts.contents.Contents.{the_row};
 ghost use Rattle.redodb_c.specs.declared.contents.Contents.TheVariants.{Closed};
@@ -14,7 +12,7 @@ use crate::handle::Handle;
 use crate::status::{DIFFERS, MEMORY, MISUSE, OK, WORN};
 use redodb_live::Live;
 use redodb_log::{RestoreFault, Restored, restore};
-use std::alloc::{AllocError, Global};
+use std::alloc::Global;
 use std::mem::size_of;
 
 /// How many bytes of memory the caller gives a handle.
@@ -25,21 +23,15 @@ pub extern "C" fn redodb_c_room() -> usize
     size_of::<Contents>()
 }
 
-/// An empty database.
-fn opened(alloc: Global) -> Result<Opened, AllocError>
-    ensures names { IfOk result (λ opened. opened.names ≡ []) }
-    ensures state { IfOk result (λ opened. state_in opened ≡ empty) }
-{
-    let live = Live::new(alloc)?;
-    Opened::new(alloc, live)
-}
-
 /// Opens an empty database.
 #[unsafe(no_mangle)]
 pub extern "C" fn redodb_c_open(alloc: Global, handle: &mut Handle) -> u32
     ensures { Opens result handle.old.contents handle.new.contents }
 {
-    match opened(alloc) {
+    let Ok(live) = Live::new(alloc) else {
+        return MEMORY;
+    };
+    match Opened::new(alloc, live) {
         Ok(opened) => {
             handle.replace(Contents::Open(opened));
             OK
