@@ -99,26 +99,10 @@ fn verdict_on(
     Ok(verdict)
 }
 
-/// The verdict on the history at the beginning of the input, and the database, which knows its
-/// names.
-fn verdict_of(alloc: Global, input: &[u8]) -> Result<(Verdict, Live), HistoryFault>
-    ensures verdict { IfOk result (λ judged. (lines : List (LineOf Text))
-        × IsHistory input.now judged.1.names lines
-        × IsVerdict lines (verdict_at judged.1.names judged.0)) }
-    ensures below { IfOk result (λ judged. IsVerdictBelow (length judged.1.names) judged.0) }
-    ensures fault { IfErr result (IsHistoryFault input.now) }
-    ensures bad_header { IsHistoryFault input.now HistoryFault.BadHeader
-        → result ≡ Err HistoryFault.BadHeader }
-{
-    let (count, rest) = read_header(input)?;
-    let mut live = Live::new(alloc)?;
-    let verdict = verdict_on(alloc, count, rest, &mut live)?;
-    Ok((verdict, live))
-}
-
 /// Reads a history, and does the command of each line again once the line is read. Gives the
 /// verdict, and the database, which knows the history's names. After a wrong reply it only reads
 /// on, since the fault of a later line comes first. Ignores what follows the lines.
+#[tactic(auto, using(crate::proofs::Inputs::memory_alone))]
 pub fn replay(alloc: Global, input: &[u8]) -> Result<(Verdict, Live), HistoryFault>
     // The input is a history of these names, and the verdict on its lines is the right one: all of
     // them are legal, or this is the first wrong line and its right reply.
@@ -139,5 +123,8 @@ pub fn replay(alloc: Global, input: &[u8]) -> Result<(Verdict, Live), HistoryFau
     ensures bad_header { IsHistoryFault input.now HistoryFault.BadHeader
         → result ≡ Err HistoryFault.BadHeader }
 {
-    verdict_of(alloc, input)
+    let (count, rest) = read_header(input)?;
+    let mut live = Live::new(alloc)?;
+    let verdict = verdict_on(alloc, count, rest, &mut live)?;
+    Ok((verdict, live))
 }
