@@ -1,7 +1,7 @@
 ghost use Rattle.std.specs.Prelude.{◌≡◌, ◌↔◌, ◌<◌, ◌≤◌, ◌+◌, List, ◌++◌, ◌∷◌, [], length, IfOk, IfErr, OnOk};
 ghost use Rattle.redodb_model.specs.Names.{Text, texts};
 ghost use Rattle.redodb_model.specs.State.{empty};
-ghost use Rattle.redodb_model.specs.History.{Line as LineOf, Legal, left_by};
+ghost use Rattle.redodb_model.specs.History.{Line as LineOf, Legal};
 ghost use Rattle.redodb_model.specs.Renaming.{IsLineBelow};
 ghost use Rattle.redodb_commands.specs.Meaning.{line_of, line_at};
 ghost use Rattle.redodb_history.specs.Histories.{header_of};
@@ -15,34 +15,6 @@ use redodb_commands::Line;
 use redodb_history::{HistoryFault, Verdict, cut_at, read_header};
 use redodb_live::Live;
 use std::alloc::{AllocError, Global};
-
-/// The verdict on legal lines and one more, which has this number. Does its command.
-fn compared(
-    alloc: Global,
-    live: &mut Live,
-    number: usize,
-    line: &Line,
-) -> Result<Verdict, AllocError>
-    requires below { IsLineBelow (length live.old.names) (line_of line.now) }
-    requires few { length live.old.names ≤ 65536 }
-    requires calls { calls_in live.old < 1048576 }
-    ensures names { live.new.names ≡ live.old.names }
-    ensures calls { OnOk result (calls_in live.new ≡ calls_in live.old + 1) }
-    ensures judged { (lines : List (LineOf Text)) → Legal texts lines
-        → state_in live.old ≡ left_by texts empty lines → number ≡ length lines + 1
-        → IfOk result (IsJudged live.new (lines ++ line_at live.old.names line.now ∷ [])) }
-{
-    live.names().are_names();
-    let reply = live.call(alloc, line.session, &line.command, &line.reply)?;
-    if reply.is_same(&line.reply) {
-        Ok(Verdict::Same(number))
-    } else {
-        Ok(Verdict::Differs {
-            line: number,
-            reply,
-        })
-    }
-}
 
 /// Turns the verdict on lines into that on these and one more, which has this number. After a wrong
 /// reply no command is done.
@@ -62,8 +34,18 @@ fn judge(
         → number ≡ length lines + 1
         → IsJudged live.new (lines ++ line_at live.old.names line.now ∷ []) verdict.new) }
 {
-    if let Verdict::Same(_) = verdict {
-        *verdict = compared(alloc, live, number, line)?;
+    let Verdict::Same(_) = verdict else {
+        return Ok(());
+    };
+    live.names().are_names();
+    let reply = live.call(alloc, line.session, &line.command, &line.reply)?;
+    if reply.is_same(&line.reply) {
+        *verdict = Verdict::Same(number);
+    } else {
+        *verdict = Verdict::Differs {
+            line: number,
+            reply,
+        };
     }
     Ok(())
 }
