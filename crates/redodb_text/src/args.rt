@@ -50,19 +50,12 @@ pub(crate) fn two(args: Option<&[u8]>) -> Option<(&[u8], &[u8])>
     }
 }
 
-/// The pieces of a text between single spaces.
-fn pieces(alloc: Global, text: &[u8]) -> Result<Vec<&[u8]>, AllocError>
-    ensures { IfOk result (λ words. map (λ w. w.now) words.items ≡ words_of text.now) }
-{
-    text.split(|b| *b == b' ').collect(alloc)
-}
-
 /// The words.
 pub(crate) fn words(alloc: Global, args: Option<&[u8]>) -> Result<Vec<&[u8]>, AllocError>
     ensures { IfOk result (λ words. map (λ w. w.now) words.items ≡ words_after args.entry) }
 {
     match args {
-        Some(text) => pieces(alloc, text),
+        Some(text) => text.split(|b| *b == b' ').collect(alloc),
         None => Ok(Vec::new(alloc)),
     }
 }
