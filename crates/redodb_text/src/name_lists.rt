@@ -78,31 +78,8 @@ pub(crate) fn numbers_of(
     Ok(numbers)
 }
 
-/// The numbers of the target and of the names that words are.
-#[tactic(auto, using(crate::proofs::Added::extends_same), unfolding(crate::specs::Support::Reading::names_form_in))]
-fn target_and_numbers_in(
-    alloc: Global,
-    names: &mut Names,
-    words: &[&[u8]],
-    most: u32,
-) -> Result<(u32, Vec<u32>), Unread>
-    requires few { length names.old ≤ most }
-    ensures reads { (form : Text → List Text → commands.Command Text) → Reads
-        (λ p. (form (text_at names.new p.0) (map (text_at names.new) p.1.items), names.new))
-        result (names_form_in most form names.old (map (λ w. w.now) words.now)) }
-    ensures within { IfOk result (λ p. AllBelow (length names.new) (p.0 ∷ p.1.items)) }
-    ensures left { IfErr result (LeavesSome most names.old (map (λ w. w.now) words.now) names.new) }
-    ensures kept { Extends names.old names.new }
-{
-    names.are_names();
-    let (target, others) = target_and_names(words)?;
-    let number = number_of(names, None, target, most)?;
-    let numbers = numbers_of(alloc, names, others, most)?;
-    Ok((number, numbers))
-}
-
 /// The numbers of the target and of the names of a form.
-#[tactic(auto, using(crate::proofs::Added::extends_same))]
+#[tactic(auto, using(crate::proofs::Added::extends_same), unfolding(crate::specs::Support::Reading::names_form_in))]
 pub(crate) fn target_and_numbers_of(
     alloc: Global,
     names: &mut Names,
@@ -123,5 +100,8 @@ pub(crate) fn target_and_numbers_of(
         return Ok(known);
     }
     let words = words(alloc, args)?;
-    target_and_numbers_in(alloc, names, &words, most)
+    let (target, others) = target_and_names(&words)?;
+    let number = number_of(names, None, target, most)?;
+    let numbers = numbers_of(alloc, names, others, most)?;
+    Ok((number, numbers))
 }
