@@ -25,6 +25,10 @@ fn reply_of_words(alloc: Global, text: &[u8], names: &mut Names, most: u32) -> R
     ensures within { IfOk result (λ reply. IsReplyBelow (length names.new) (reply_of reply)) }
     ensures kept { Extends names.old names.new }
 {
+    // Most replies are this one.
+    if text == b"ok".as_slice() {
+        return Ok(Reply::Okay);
+    }
     let Some((kind, args)) = cut_reply_kind(text) else {
         return Err(Unread::Fault(LineFault::WrongWords));
     };
@@ -42,22 +46,6 @@ fn reply_of_words(alloc: Global, text: &[u8], names: &mut Names, most: u32) -> R
         ReplyKind::Sources => Ok(Reply::Sources(listed_of(alloc, names, args, most)?)),
         ReplyKind::Refused => Ok(Reply::Refused(refusal_of_words(names, args, most)?)),
     }
-}
-
-/// The reply of a text, without LF.
-#[tactic(auto, using(crate::proofs::Added::extends_same))]
-fn text_read(alloc: Global, text: &[u8], names: &mut Names, most: u32) -> Result<Reply, Unread>
-    requires { length names.old ≤ most }
-    ensures reads { Reads (λ reply. (reply_at names.new reply, names.new)) result
-        (reply_in most names.old text.now) }
-    ensures within { IfOk result (λ reply. IsReplyBelow (length names.new) (reply_of reply)) }
-    ensures kept { Extends names.old names.new }
-{
-    // Most replies are this one.
-    if text == b"ok".as_slice() {
-        return Ok(Reply::Okay);
-    }
-    reply_of_words(alloc, text, names, most)
 }
 
 /// Reads the reply of a text, without LF. After a fault the old names are a prefix of the names.
@@ -80,7 +68,7 @@ pub fn read_reply(
     ensures kept { Extends names.old names.new }
 {
     names.are_names();
-    match text_read(alloc, text, names, most) {
+    match reply_of_words(alloc, text, names, most) {
         Ok(reply) => Ok(reply),
         Err(Unread::Memory) => Err(ReplyFault::Memory),
         Err(Unread::Fault(_)) => Err(ReplyFault::BadReply),

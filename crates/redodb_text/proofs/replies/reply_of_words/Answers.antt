@@ -1,5 +1,5 @@
 use Rattle.redodb_text.proofs.ReplyNames.{okay_read}
-use Rattle.redodb_text.proofs.replies.text_read.Goals as goal
+use Rattle.redodb_text.proofs.replies.reply_of_words.Goals as goal
 
 pub returns-then-eq-clause-reads : goal.returns-then-eq-clause-reads
 returns-then-eq-clause-reads c =
