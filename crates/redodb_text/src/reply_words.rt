@@ -19,27 +19,17 @@ use redodb_commands::Refusal;
 use redodb_names::Names;
 use std::alloc::Global;
 
-/// The number of a word, from 1, without a sign or a leading zero.
-fn grant_in_word(word: &[u8]) -> Result<u32, Unread>
-    ensures { Reads (λ g. g) result (grant_in word.now) }
-{
-    let Some(grant) = read_number(word) else {
-        return Err(Unread::Fault(LineFault::WrongWords));
-    };
-    if grant == 0 {
-        return Err(Unread::Fault(LineFault::WrongWords));
-    }
-    Ok(grant)
-}
-
-/// The number of a grant, from the one word.
+/// The number of a grant, from the one word: from 1, without a sign or a leading zero.
 pub(crate) fn grant_of(args: Option<&[u8]>) -> Result<u32, Unread>
     ensures { Reads (λ g. g) result (one_word_in grant_in (words_after args.entry)) }
 {
+    let Some(words) = args else {
+        return Err(Unread::Fault(LineFault::WrongWords));
+    };
     // More than one word is no number either.
-    match args {
-        Some(word) => grant_in_word(word),
-        None => Err(Unread::Fault(LineFault::WrongWords)),
+    match read_number(words) {
+        Some(grant) if grant > 0 => Ok(grant),
+        _ => Err(Unread::Fault(LineFault::WrongWords)),
     }
 }
 
