@@ -1,12 +1,12 @@
-ghost use Rattle.std.specs.Prelude.{◌≡◌, ◌<◌, ◌++◌, ℕ, List, map, length, decimal, option_map, IfOk, OnOk};
+ghost use Rattle.std.specs.Prelude.{◌≡◌, ◌<◌, ◌++◌, map, length, decimal, option_map, IfOk, OnOk};
 ghost use Rattle.std.specs.List.{flat_map};
 ghost use Rattle.hex.specs.Hex.{encode_lower};
 ghost use Rattle.redodb_model.specs.Names.{text_at};
 ghost use Rattle.redodb_model.specs.Reply.{Refused};
 ghost use Rattle.redodb_model.specs.Renaming.{IsBelow, IsReplyBelow, AllBelow, named_refusal};
 ghost use Rattle.redodb_commands.specs.Meaning.{command_of, reply_of, refusal_of, reply_at};
-ghost use Rattle.redodb_commands.specs.Support.Meaning.{kind_of, command_at, item_at};
-ghost use Rattle.redodb_text.specs.Texts.{after_space, stamp_word, digest_word, content_word, refusal_words, word_of, command_text_of, item_text_of, reply_text_of};
+ghost use Rattle.redodb_commands.specs.Support.Meaning.{command_at, item_at};
+ghost use Rattle.redodb_text.specs.Texts.{after_space, stamp_word, digest_word, content_word, refusal_words, command_text_of, item_text_of, reply_text_of};
 
 use crate::keywords::keyword;
 use itoa::Buffer;
@@ -82,18 +82,18 @@ fn put_content(alloc: Global, out: &mut Vec<u8>, content: &[u8]) -> Result<(), A
     }
 }
 
-/// Writes what follows a command's word.
-fn put_form(
+/// Writes the text of a command: its words with single spaces, without LF.
+pub fn put_command(
     alloc: Global,
     out: &mut Vec<u8>,
     command: &Command,
     names: &Names,
 ) -> Result<(), AllocError>
     requires { IsBelow (length names.now) (command_of command.now) }
-    ensures { (prefix : List ℕ) → out.old.items ≡ prefix ++ word_of (kind_of command.now)
-        → OnOk result (out.new.items
-        ≡ prefix ++ command_text_of (command_at names.now command.now)) }
+    ensures { OnOk result
+        (out.new.items ≡ out.old.items ++ command_text_of (command_at names.now command.now)) }
 {
+    out.extend_from_slice(keyword(command.kind()))?;
     match command {
         Command::File(n, stamp) => {
             put_word(out, names.text(*n))?;
@@ -119,21 +119,6 @@ fn put_form(
         }
         Command::Ood | Command::Targets | Command::Sources => Ok(()),
     }
-}
-
-/// Writes the text of a command: its words with single spaces, without LF.
-pub fn put_command(
-    alloc: Global,
-    out: &mut Vec<u8>,
-    command: &Command,
-    names: &Names,
-) -> Result<(), AllocError>
-    requires { IsBelow (length names.now) (command_of command.now) }
-    ensures { OnOk result
-        (out.new.items ≡ out.old.items ++ command_text_of (command_at names.now command.now)) }
-{
-    out.extend_from_slice(keyword(command.kind()))?;
-    put_form(alloc, out, command, names)
 }
 
 /// Writes the text of a line of a script: that of its command, with `? ` before it if it is
