@@ -16,10 +16,10 @@ use crate::form::Form;
 use crate::keywords::cut_kind;
 use crate::name_lists::target_and_numbers_of;
 use crate::words::{
-    content_of, file_stamp_of, file_stamp_or_none_of, known_alone, known_name, name_of, number_of,
+    content_of, file_stamp_of, file_stamp_or_none_of, known_alone, known_name, number_of,
 };
 use redodb_commands::{Command, boxed};
-use redodb_names::Names;
+use redodb_names::{Names, is_name};
 use std::alloc::Global;
 
 /// The number of the one name of a form.
@@ -40,8 +40,10 @@ fn one_name_of(names: &mut Names, args: Option<&[u8]>, most: u32) -> Result<u32,
     let Some(word) = one(args) else {
         return Err(Unread::Fault(LineFault::WrongWords));
     };
-    let name = name_of(word)?;
-    number_of(names, None, name, most)
+    if !is_name(word) {
+        return Err(Unread::Fault(LineFault::BadName));
+    }
+    number_of(names, None, word, most)
 }
 
 #[tactic(auto, using(crate::proofs::Added::extends_same), unfolding(crate::specs::Support::Reading::name_and_word_in))]

@@ -11,18 +11,6 @@ use redodb_commands::FileStamp;
 use redodb_names::{Names, NamesFault, is_name};
 use std::alloc::Global;
 
-/// The name of a word.
-pub(crate) fn name_of(word: &[u8]) -> Result<&[u8], Unread>
-    ensures reads { Reads (λ name. name.now) result (name_in word.now) }
-    ensures name { IfOk result (λ name. name_test name.now ≡ true) }
-{
-    if is_name(word) {
-        Ok(word)
-    } else {
-        Err(Unread::Fault(LineFault::BadName))
-    }
-}
-
 /// The stamp of a word.
 pub(crate) fn file_stamp_of(word: &[u8]) -> Result<FileStamp, Unread>
     ensures { Reads (λ stamp. stamp) result (file_stamp_in word.now) }
