@@ -1,6 +1,6 @@
 ghost use Rattle.std.specs.Prelude.{◌≡◌, ◌≢◌, ◌↔◌, ◌⊎◌, [], false, map, string_bytes, IfOk, IfErr, IfSome, IsSome, OnOk, IsOkAnd};
-ghost use Rattle.clap.specs.Words.{app_of, kind_of, rule_of, subcommand_rows_of, with_subcommand};
-ghost use Rattle.redodb_arguments.specs.Words.{redodb, run_app, empty_app, file_rule, files_rule, Asks, AreFaultless, AskFor};
+ghost use Rattle.clap.specs.Words.{app_of, kind_of, rule_of, subcommand_rows_of};
+ghost use Rattle.redodb_arguments.specs.Words.{redodb, file_rule, files_rule, Asks, AreFaultless, AskFor};
 
 use crate::fault::WordsFault;
 use crate::task::Job;
@@ -29,23 +29,17 @@ fn file<'a>(alloc: Global) -> Arg<'a>
         .action(ArgAction::Set)
 }
 
-/// `run FILE...`, one of the program's two.
-fn with_run<'a>(alloc: Global) -> Result<Command<'a>, AllocError>
-    ensures { IfOk result (λ command. app_of command ≡ with_subcommand empty_app run_app.top) }
-{
-    let run = Command::new(alloc, "run").arg(files(alloc))?;
-    Command::new(alloc, "redodb")
-        .no_binary_name(true)
-        .subcommand_required(true)
-        .subcommand(run)
-}
-
 /// `run FILE...` and `replay FILE`.
 fn command<'a>(alloc: Global) -> Result<Command<'a>, AllocError>
     ensures { IfOk result (λ command. app_of command ≡ redodb) }
 {
+    let run = Command::new(alloc, "run").arg(files(alloc))?;
     let replay = Command::new(alloc, "replay").arg(file(alloc))?;
-    with_run(alloc)?.subcommand(replay)
+    Command::new(alloc, "redodb")
+        .no_binary_name(true)
+        .subcommand_required(true)
+        .subcommand(run)?
+        .subcommand(replay)
 }
 
 fn copies(alloc: Global, texts: &[&str]) -> Result<Vec<String>, AllocError>
