@@ -95,17 +95,15 @@ fn talk_of(alloc: Global, matches: &ArgMatches<'_>) -> Result<Option<LiveJob>, A
     }
 }
 
-/// The backup of words that ask for this copy: `None` if there is no log, or a flag besides.
-fn backup_of(
-    alloc: Global,
-    matches: &ArgMatches<'_>,
-    copy: &str,
-) -> Result<Option<LiveJob>, AllocError>
-    requires { first_of (codes "backup") (rows_of (found_of matches.now)) ≡ Some copy.now }
+/// `None` if the words ask for nothing: a backup needs a log, and no flag goes with it.
+fn job_of(alloc: Global, matches: &ArgMatches<'_>) -> Result<Option<LiveJob>, AllocError>
     ensures asked { IfOk result (λ found. IfSome found (Asks (rows_of (found_of matches.now)))) }
     ensures only { (job : LiveJob) → Asks (rows_of (found_of matches.now)) job
         → IfOk result (λ found. IsSome found) }
 {
+    let Some(copy) = matches.get_str("backup") else {
+        return talk_of(alloc, matches);
+    };
     if has_flag(matches) {
         return Ok(None);
     }
@@ -116,18 +114,6 @@ fn backup_of(
             Ok(Some(LiveJob::BackUp(Backup { log, copy })))
         }
         None => Ok(None),
-    }
-}
-
-/// `None` if the words ask for nothing.
-fn job_of(alloc: Global, matches: &ArgMatches<'_>) -> Result<Option<LiveJob>, AllocError>
-    ensures asked { IfOk result (λ found. IfSome found (Asks (rows_of (found_of matches.now)))) }
-    ensures only { (job : LiveJob) → Asks (rows_of (found_of matches.now)) job
-        → IfOk result (λ found. IsSome found) }
-{
-    match matches.get_str("backup") {
-        Some(copy) => backup_of(alloc, matches, copy),
-        None => talk_of(alloc, matches),
     }
 }
 
