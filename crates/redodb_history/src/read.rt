@@ -1,4 +1,4 @@
-ghost use Rattle.std.specs.Prelude.{◌≡◌, ◌↔◌, ℕ, ◌<◌, ◌≤◌, ◌++◌, length, MatchOption, IfOk, IfErr};
+ghost use Rattle.std.specs.Prelude.{◌≡◌, ℕ, ◌<◌, ◌≤◌, ◌++◌, length, MatchOption, IfOk, IfErr};
 ghost use Rattle.redodb_names.specs.Support.Names.{Extends};
 ghost use Rattle.redodb_model.specs.Renaming.{IsLineBelow};
 ghost use Rattle.redodb_commands.specs.Meaning.{line_of, line_at};
@@ -12,7 +12,7 @@ use crate::cuts::{cut_at, cut_at_arrow, cut_at_space};
 use crate::fault::HistoryFault;
 use redodb_commands::{Line, MOST_SESSIONS};
 use redodb_names::{MOST_NAMES, Names};
-use redodb_text::{LineFault, ReadFault, ReplyFault, read_command, read_number, read_reply};
+use redodb_text::{ReadFault, ReplyFault, read_command, read_number, read_reply};
 use std::alloc::Global;
 
 /// How many lines a history has at most.
@@ -49,29 +49,6 @@ pub fn read_header(input: &[u8]) -> Result<(usize, &[u8]), HistoryFault>
     }
 }
 
-/// The fault of the line of this number whose command has this fault.
-fn command_fault(number: usize, fault: ReadFault) -> HistoryFault
-    ensures memory { (result ≡ HistoryFault.Memory) ↔ (fault ≡ ReadFault.Memory) }
-    ensures line { (at : ℕ) (own : LineFault) → fault ≡ ReadFault.Line at own
-        → result ≡ HistoryFault.BadLine number own }
-{
-    match fault {
-        ReadFault::Memory => HistoryFault::Memory,
-        ReadFault::Line { line: _, fault } => HistoryFault::BadLine(number, fault),
-    }
-}
-
-/// The fault of the line of this number whose reply has this fault.
-fn reply_fault(number: usize, fault: ReplyFault) -> HistoryFault
-    ensures memory { (result ≡ HistoryFault.Memory) ↔ (fault ≡ ReplyFault.Memory) }
-    ensures reply { fault ≡ ReplyFault.BadReply → result ≡ HistoryFault.BadReply number }
-{
-    match fault {
-        ReplyFault::Memory => HistoryFault::Memory,
-        ReplyFault::BadReply => HistoryFault::BadReply(number),
-    }
-}
-
 /// The line of this number and this text, with its names added. On a fault, some of its names may
 /// stay.
 pub fn read_line(
@@ -98,11 +75,13 @@ pub fn read_line(
     };
     let command = match read_command(alloc, command, names, MOST_NAMES) {
         Ok(command) => command,
-        Err(fault) => return Err(command_fault(number, fault)),
+        Err(ReadFault::Memory) => return Err(HistoryFault::Memory),
+        Err(ReadFault::Line { fault, .. }) => return Err(HistoryFault::BadLine(number, fault)),
     };
     let reply = match read_reply(alloc, reply, names, MOST_NAMES) {
         Ok(reply) => reply,
-        Err(fault) => return Err(reply_fault(number, fault)),
+        Err(ReplyFault::Memory) => return Err(HistoryFault::Memory),
+        Err(ReplyFault::BadReply) => return Err(HistoryFault::BadReply(number)),
     };
     Ok(Line {
         session,

@@ -1,4 +1,4 @@
-use Rattle.std.proofs.Common.{◌≡◌, List, [], ◌∷◌, inl, inr, refl, sym, subst, arith}
+use Rattle.std.proofs.Common.{◌≡◌, [], ◌∷◌, inl, inr, refl, sym, subst, arith}
 use Rattle.std.proofs.lemmas.Grind.{common_steps}
 use Rattle.redodb_model.specs.Names.{Text}
 use Rattle.redodb_model.specs.Command as commands
@@ -6,51 +6,37 @@ use Rattle.redodb_commands.specs.Meaning.{command_of, line_at}
 use Rattle.redodb_commands.specs.Support.Meaning.{command_at}
 use Rattle.redodb_text.specs.Grammar.{IsCommandLine, AddsNames}
 use Rattle.redodb_text.proofs.Added.{command_at-Extends, IsBelow-Extends}
-use Rattle.redodb_text.specs.declared.fault.ReplyFault.{ReplyFault}
-use Rattle.redodb_text.specs.declared.fault.ReplyFault.TheVariants as replies
-use Rattle.redodb_history.specs.declared.fault.HistoryFault.{HistoryFault}
-use Rattle.redodb_history.specs.HistoryFaults.{IsNoReply, HasBadReply}
-use Rattle.redodb_history.specs.Support.HistoryFaults.{IsLineCause}
+use Rattle.redodb_history.specs.HistoryFaults.{IsNoReply}
 use Rattle.redodb_history.proofs.LineParts.{line_parts, line_named}
 use Rattle.redodb_history.proofs.read.read_line.Goals as goal
 
-pub returns-in-Err-read_reply-clause-fault : goal.returns-in-Err-read_reply-clause-fault
-returns-in-Err-read_reply-clause-fault c = by c.in-Err-read_reply.fault refl
-  where
-    mid : List Text
-    mid = c.read_command.new.names
-
-    cause : HistoryFault → Type 0
-    cause = IsLineCause c.args.names.now c.args.number c.args.text.now
-
-    bad : c.in-Err-read_reply.fault ≡ replies.BadReply
-        → HasBadReply c.args.names.now c.args.text.now
-    bad e =
-        let none : IsNoReply mid c.in-Some-cut_at_arrow.reply.now =
-        λ reply after is adds. elim (c.in-Err-read_reply.ensures.only reply after is adds)
-        [ inl memory ↦ absurd cc | inr ok ↦ ok ] in (
-          c.cut_at_space.result.1.now,
-          (
-            c.cut_at_space.result.0.now,
-            c.in-Some.session,
-            c.cut_at_space.ensures,
-            c.in-Some.ensures,
-          ),
-          inr (
-            c.in-Some-cut_at_arrow.command.now,
-            c.in-Some-cut_at_arrow.reply.now,
-            command_at mid c.in-Ok.command,
-            mid,
-            c.in-Some-cut_at_arrow.ensures,
-            c.in-Ok.ensures.read.0,
-            c.in-Ok.ensures.read.1,
-            none,
-          ),
-        )
-
-    by : (why : ReplyFault) → c.in-Err-read_reply.fault ≡ why → cause c.reply_fault.result
-    by replies.Memory e = subst cause (sym (c.reply_fault.ensures.memory.1 e)) tt
-    by replies.BadReply e = subst cause (sym (c.reply_fault.ensures.reply e)) (refl, bad e)
+pub returns-in-Err-BadReply-clause-fault : goal.returns-in-Err-BadReply-clause-fault
+returns-in-Err-BadReply-clause-fault c =
+    let mid = c.read_command.new.names in
+    let none : IsNoReply mid c.in-Some-cut_at_arrow.reply.now =
+    λ reply after is adds. elim (c.in-Err-BadReply.ensures.only reply after is adds)
+    [ inl memory ↦ absurd cc | inr ok ↦ ok ] in (
+      refl,
+      (
+        c.cut_at_space.result.1.now,
+        (
+          c.cut_at_space.result.0.now,
+          c.in-Some.session,
+          c.cut_at_space.ensures,
+          c.in-Some.ensures,
+        ),
+        inr (
+          c.in-Some-cut_at_arrow.command.now,
+          c.in-Some-cut_at_arrow.reply.now,
+          command_at mid c.in-Ok.command,
+          mid,
+          c.in-Some-cut_at_arrow.ensures,
+          c.in-Ok.ensures.read.0,
+          c.in-Ok.ensures.read.1,
+          none,
+        ),
+      ),
+    )
 
 pub returns-clause-read : goal.returns-clause-read
 returns-clause-read c =
@@ -94,9 +80,6 @@ returns-clause-below c = (
       c.read_reply.ensures.kept c.in-Ok.ensures.within,
   c.in-Ok-read_reply.ensures.within,
 )
-
-pub returns-in-Err-read_reply-clause-kept : goal.returns-in-Err-read_reply-clause-kept
-returns-in-Err-read_reply-clause-kept c = grind (arith, common_steps)
 
 pub returns-clause-kept : goal.returns-clause-kept
 returns-clause-kept c = grind (arith, common_steps)
