@@ -61,9 +61,7 @@ Comes turns (Released t g) = slice_index turns.claims.items t + 1 ≡ 2 * g
 -- how many rows, and the claim word of a target, after a place
 abbrev pub rows_after : Place → ℕ → ℕ
 rows_after (Row r) rows = rows + 1
-rows_after (Granted t g) rows = rows
-rows_after (Busy t g) rows = rows
-rows_after (Released t g) rows = rows
+rows_after place rows = rows
 
 abbrev pub claim_after : Place → ℕ → ℕ → ℕ
 claim_after (Row r) u claim = claim
@@ -86,10 +84,8 @@ abbrev pub tally : {S : Type 0} → HashMap (ℕ × ℕ) ℕ S → ℕ → ℕ �
 tally counts t g = unwrap_or (get same_pair counts (t, g)) 0
 
 abbrev pub is_busy : ℕ → ℕ → Place → Bool
-is_busy t g (Row r) = false
-is_busy t g (Granted u h) = false
 is_busy t g (Busy u h) = (u == t) && (h == g)
-is_busy t g (Released u h) = false
+is_busy t g place = false
 
 -- 1 for a busy reply of the grant
 abbrev pub busy_one : ℕ → ℕ → Place → ℕ
@@ -106,10 +102,8 @@ busy_below t g j (suc n) = busy_below t g j n + busy_in t g (j n)
 
 -- a release has no busy reply of its own grant left
 abbrev pub IsFree : {S : Type 0} → HashMap (ℕ × ℕ) ℕ S → Place → Type 0
-IsFree counts (Row r) = ⊤
-IsFree counts (Granted t g) = ⊤
-IsFree counts (Busy t g) = ⊤
 IsFree counts (Released t g) = tally counts t g ≡ 0
+IsFree counts place = ⊤
 
 -- the journal has an entry at k, and it may come
 pub record MayCome {S : Type 0} (turns : Turns) (counts : HashMap (ℕ × ℕ) ℕ S)

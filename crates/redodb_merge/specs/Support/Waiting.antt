@@ -24,9 +24,7 @@ bucket_of (Released t g) = 256 + t % 256
 -- the bucket whose sessions a place wakes
 abbrev pub bucket_woken : Place → ℕ
 bucket_woken (Row r) = row_bucket (r + 1)
-bucket_woken (Granted t g) = 256 + t % 256
-bucket_woken (Busy t g) = 256 + t % 256
-bucket_woken (Released t g) = 256 + t % 256
+bucket_woken place = bucket_of place
 
 -- each place has a bucket
 abbrev pub HasBuckets : Waiting → Type 0
