@@ -11,13 +11,13 @@ ghost use Rattle.redodb_text.specs.Support.ReplyReading.{reply_in};
 use crate::fault::{LineFault, ReplyFault, Unread};
 use crate::forms::check_no_words;
 use crate::reply_kind::{ReplyKind, cut_reply_kind};
-use crate::reply_words::{digest_of_word, grant_of, listed_of, refusal_of_words, some_listed_of};
+use crate::reply_words::{digest_of_word, grant_of, listed_of, refusal_of_words};
 use redodb_commands::{Digest, Reply};
 use redodb_names::Names;
 use std::alloc::Global;
 
 /// The reply of a text by its first word.
-#[tactic(auto, using(crate::proofs::Added::extends_same, crate::proofs::ReplyNames::none_added), unfolding(crate::specs::Support::ReplyReading::reply_in, crate::specs::Support::ReplyReading::reply_args_in))]
+#[tactic(auto, using(crate::proofs::Added::extends_same, crate::proofs::FirstWords::some_after, crate::proofs::ReplyNames::none_added), unfolding(crate::specs::Support::ReplyReading::reply_in, crate::specs::Support::ReplyReading::reply_args_in))]
 fn reply_of_words(alloc: Global, text: &[u8], names: &mut Names, most: u32) -> Result<Reply, Unread>
     requires { length names.old ≤ most }
     ensures reads { Reads (λ reply. (reply_at names.new reply, names.new)) result
@@ -39,7 +39,10 @@ fn reply_of_words(alloc: Global, text: &[u8], names: &mut Names, most: u32) -> R
         }
         ReplyKind::Granted => Ok(Reply::Granted(grant_of(args)?)),
         ReplyKind::Busy => Ok(Reply::Busy(grant_of(args)?)),
-        ReplyKind::Stale => Ok(Reply::Stale(some_listed_of(alloc, names, args, most)?)),
+        ReplyKind::Stale => match args {
+            Some(_) => Ok(Reply::Stale(listed_of(alloc, names, args, most)?)),
+            None => Err(Unread::Fault(LineFault::WrongWords)),
+        },
         ReplyKind::Stamped => Ok(Reply::Stamped(Digest::new(digest_of_word(args)?))),
         ReplyKind::Ood => Ok(Reply::Ood(listed_of(alloc, names, args, most)?)),
         ReplyKind::Targets => Ok(Reply::Targets(listed_of(alloc, names, args, most)?)),

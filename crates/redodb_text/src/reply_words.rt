@@ -6,7 +6,7 @@ ghost use Rattle.redodb_model.specs.Renaming.{AllBelow, IsReplyBelow, named_refu
 ghost use Rattle.redodb_commands.specs.Meaning.{refusal_of};
 ghost use Rattle.redodb_text.specs.Support.Reading.{Reads, words_after};
 ghost use Rattle.redodb_text.specs.Replies.{names_in_refusal};
-ghost use Rattle.redodb_text.specs.Support.ReplyReading.{one_word_in, grant_in, digest_in, names_in_words, some_names_in_words, plain_refusal_in, refusal_in_words, with_its_names};
+ghost use Rattle.redodb_text.specs.Support.ReplyReading.{one_word_in, grant_in, digest_in, names_in_words, plain_refusal_in, refusal_in_words, with_its_names};
 
 use crate::args::{one, two, words};
 use crate::fault::{LineFault, Unread};
@@ -83,25 +83,6 @@ pub(crate) fn listed_of(
         return Err(Unread::Fault(LineFault::BadName));
     }
     numbers_of(alloc, names, &words, most)
-}
-
-/// The same for at least one name.
-pub(crate) fn some_listed_of(
-    alloc: Global,
-    names: &mut Names,
-    args: Option<&[u8]>,
-    most: u32,
-) -> Result<Vec<u32>, Unread>
-    requires { length names.old ≤ most }
-    ensures reads { Reads (λ numbers. (map (text_at names.new) numbers.items, names.new)) result
-        (with_its_names most (λ ns. ns) names.old (some_names_in_words (words_after args.entry))) }
-    ensures within { IfOk result (λ numbers. AllBelow (length names.new) numbers.items) }
-    ensures kept { Extends names.old names.new }
-{
-    match args {
-        Some(_) => listed_of(alloc, names, args, most),
-        None => Err(Unread::Fault(LineFault::WrongWords)),
-    }
 }
 
 /// The refusal of one word alone.
