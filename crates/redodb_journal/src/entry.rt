@@ -79,21 +79,12 @@ impl Entry {
     {
         match self.closing {
             Some(closing) => Some(CommandDone::Closing(closing.command())),
-            None => match command_at(script, self.number) {
-                Some(command) => Some(CommandDone::OfLine(command)),
-                None => None,
-            },
+            None => {
+                let item = script.items().get(self.number as usize)?;
+                Some(CommandDone::OfLine(&item.command))
+            }
         }
     }
-}
-
-/// The command of a line of the script, if there is one of this number.
-fn command_at(script: &Script, number: u32) -> Option<&Command>
-    ensures { unwrap_or (option_map (λ command. command_of command.now) result) Ood
-        ≡ slice_index_or (commands_in (map item_of script.now)) number Ood }
-{
-    let item = script.items().get(number as usize)?;
-    Some(&item.command)
 }
 
 /// What a session did, in order, and how often it tried to fill a row. Sessions are counted from 0.
