@@ -1,8 +1,6 @@
 -- What replies say.
-use Rattle.std.proofs.Common.{◌≡◌, ◌∙◌, ℕ, Bool, List, [], ◌∷◌, Option, Some, None, refl, ap, subst, MatchOption}
-use Rattle.std.specs.Prelude.{IsSome, is_some}
+use Rattle.std.proofs.Common.{◌≡◌, ℕ, Bool, List, [], ◌∷◌, Option, None, refl, subst, MatchOption}
 use Rattle.std.specs.declared.cmp.Ordering.{Ordering}
-use Rattle.std.proofs.lemmas.Bool.{false≢true}
 use Rattle.redodb_model.specs.Command.{Command}
 use Rattle.redodb_model.specs.Names.{Naming, numbers}
 use Rattle.redodb_model.specs.Renaming.{AllBelow, IsReplyBelow}
@@ -22,22 +20,9 @@ pub same_verdict : (order : ℕ → ℕ → Ordering) (r : Records ℕ) (s : ℕ
 same_verdict order r s holds x = refl
 
 module _ (naming : Naming ℕ) (r : Records ℕ) (s : ℕ) (holds : Bool) (x : Command ℕ) where
-  -- the reply to a refused command is its refusal
-  pub replies_refused : (refusal : Refusal ℕ) → Some refusal ≡ verdict_of naming r s holds x
-      → Replies naming r s holds x (Refused refusal)
-  replies_refused refusal is =
-      subst (λ (o : Option (Refusal ℕ)). MatchOption o (Tells naming r x (Refused refusal))
-      (λ other. Refused refusal ≡ Refused other)) is refl
-
   -- the reply to an accepted command is its answer
   pub replies_accepted : (reply : Reply ℕ) → None ≡ verdict_of naming r s holds x
       → Tells naming r x reply → Replies naming r s holds x reply
   replies_accepted reply is tells =
       subst (λ (o : Option (Refusal ℕ)). MatchOption o (Tells naming r x reply)
       (λ refusal. reply ≡ Refused refusal)) is tells
-
-  -- an accepted command has no refusal
-  pub not_refused : None ≡ verdict_of naming r s holds x → IsSome (verdict_of naming r s holds x)
-      → ⊥
-  not_refused is some =
-      false≢true (ap (λ (o : Option (Refusal ℕ)). is_some o) is ∙ some)
